@@ -17,6 +17,9 @@ use std::alloc::{AllocError, Global};
 /// The name of the module of what is in open types.
 pub(crate) const CONTENTS: &str = "Contents";
 
+/// Its type of values of universal types.
+const UNIVERSAL: &str = "Universal";
+
 /// Limits how many types of `--module` are tried.
 const MOST_TRIED: usize = 100;
 
@@ -62,13 +65,21 @@ impl<'text> Catalog<'text> {
     /// `Call` if it isn't known, or has no schema. `Memory` if memory runs out.
     pub fn resolve_named(&mut self, alloc: Global, call: &Call) -> Result<(), Fault> {
         if call.type_name.is_some() {
-            self.known_for(alloc, call, None)?;
+            self.known_for(alloc, call, Candidates::Named)?;
         }
         Ok(())
     }
 
-    /// Returns the types that a message of a call with this label may be of: the one that the call
-    /// names, or the one that the label names, or all that are tried.
+    /// Returns whether it is worth while to try the first of these types alone: all are tried, those
+    /// of this repository alone, and aren't resolved yet.
+    pub(crate) fn may_try_first(&self, candidates: Candidates) -> bool {
+        let mut known = self.known.iter();
+        self.read.is_none()
+            && candidates == Candidates::Tried
+            && known.all(|known| known.candidates != candidates)
+    }
+
+    /// Returns these types of a call.
     ///
     /// # Errors
     /// As `resolve_named`.
@@ -76,9 +87,8 @@ impl<'text> Catalog<'text> {
         &mut self,
         alloc: Global,
         call: &Call,
-        label: Option<&str>,
+        candidates: Candidates,
     ) -> Result<&Known<'text>, Fault> {
-        let candidates = candidates_for(call, label);
         let mut known = self.known.iter();
         let index = match known.position(|known| known.candidates == candidates) {
             Some(index) => index,
@@ -109,7 +119,7 @@ impl<'text> Catalog<'text> {
 }
 
 /// Returns what decides of which type a message of a call with this label is.
-fn candidates_for(call: &Call, label: Option<&str>) -> Candidates {
+pub(crate) fn candidates_for(call: &Call, label: Option<&str>) -> Candidates {
     if call.work == Work::Dump {
         return Candidates::Nothing;
     }
@@ -147,25 +157,20 @@ fn texts_for(alloc: Global, call: &Call, candidates: Candidates) -> Result<Texts
             texts.add_module(module);
         }
     }
-    match call.work {
-        Work::Show => texts.add_module(CONTENTS),
-        Work::Dump => texts.add_alone(CONTENTS),
-        Work::Check
-        | Work::Lint
-        | Work::Json
-        | Work::Encode
-        | Work::Example
-        | Work::Normalise
-        | Work::Types => {}
+    match contents_for(call.work, candidates) {
+        [] => {}
+        [UNIVERSAL] => texts.add_alone(CONTENTS),
+        _ => texts.add_module(CONTENTS),
     }
     Ok(texts)
 }
 
 /// Returns the types of the module Contents by which such work shows what messages hold.
-fn contents_for(work: Work) -> &'static [&'static str] {
+fn contents_for(work: Work, candidates: Candidates) -> &'static [&'static str] {
     match work {
-        Work::Show => &["Universal", "Open", "Octets", "Bits"],
-        Work::Dump => &["Universal"],
+        Work::Show if candidates == Candidates::First => &[],
+        Work::Show => &[UNIVERSAL, "Open", "Octets", "Bits"],
+        Work::Dump => &[UNIVERSAL],
         Work::Check
         | Work::Lint
         | Work::Json
@@ -186,7 +191,7 @@ fn known_of<'text>(
     wanted: Vec<TypeRef<'text>>,
 ) -> Result<Known<'text>, Fault> {
     let mut all = Vec::from_slice(alloc, wanted.as_slice())?;
-    for name in contents_for(call.work) {
+    for name in contents_for(call.work, candidates) {
         if let Some(of) = read.built_in(CONTENTS, name) {
             all.push(of)?;
         }
@@ -204,7 +209,7 @@ fn known_of<'text>(
     Ok(Known {
         candidates,
         types,
-        universal: contents(&library, read, "Universal"),
+        universal: contents(&library, read, UNIVERSAL),
         open: contents(&library, read, "Open"),
         octets: contents(&library, read, "Octets"),
         bits: contents(&library, read, "Bits"),

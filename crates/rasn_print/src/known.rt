@@ -21,6 +21,8 @@ pub(crate) enum Candidates {
     Named,
     /// Its label, which is one of the message of a standard with this index.
     Labelled(usize),
+    /// Whether the first of the types that are tried reads it.
+    First,
     /// Which of the types that are tried is the first to read it.
     Tried,
     /// Nothing: its encodings are shown without a type.
@@ -32,6 +34,7 @@ impl Candidates {
     pub(crate) fn have(self, index: usize, is_tried: bool) -> bool {
         match self {
             Candidates::Labelled(labelled) => labelled == index,
+            Candidates::First => index == 0,
             Candidates::Tried => is_tried,
             Candidates::Named | Candidates::Nothing => false,
         }

@@ -1,16 +1,17 @@
 //! Goes over the messages of inputs.
 ghost use Rattle.std.specs.Prelude.{◌≡◌, true};
 
-use crate::catalog::Catalog;
+use crate::catalog::{Catalog, candidates_for};
 use crate::command_line::{Call, Work};
 use crate::dump::{Entries, Entry, entry_line, fault_text};
 use crate::fault::Fault;
 use crate::input::{Form, form_of, from_line, is_plain_text, why_not_hexadecimal, without_mark};
+use crate::known::Candidates;
 use crate::messages::{TRUST, TRUSTED};
 use crate::pasted::unindented;
 use crate::pem_fault::block_fault;
 use crate::reason::Reason;
-use crate::work::{Answer, Context, Input, answer_to, printed};
+use crate::work::{Answer, Context, Input, answer_of_first, answer_to, is_of_first, printed};
 use rasn_de::ber::de::{Decoder, DecoderOptions};
 use rasn_text::{Block, Escaping, visible};
 use rasn_types::types::Codec;
@@ -206,17 +207,35 @@ impl<W: Write + Drop, E: Write + Drop> Session<'_, W, E> {
         }
     }
 
-    /// Returns what is printed for a message.
+    /// Returns what messages are worked on with that may be of these types.
+    fn context(&mut self, candidates: Candidates) -> Result<Context<'_>, Fault>
+        ensures { self.new.is_refused ≡ self.old.is_refused }
+    {
+        Ok(Context {
+            alloc: self.alloc,
+            call: self.call,
+            known: self.catalog.known_for(self.alloc, self.call, candidates)?,
+            is_colored: self.is_colored,
+        })
+    }
+
+    /// Returns what is printed for a message. While the types that are tried aren't resolved, the
+    /// first of them is tried alone.
     fn answer(&mut self, input: &Input<'_>) -> Result<Answer, Fault>
         ensures { self.new.is_refused ≡ self.old.is_refused }
     {
-        let context = Context {
-            alloc: self.alloc,
-            call: self.call,
-            known: self.catalog.known_for(self.alloc, self.call, input.label)?,
-            is_colored: self.is_colored,
-        };
-        Ok(answer_to(&context, input)?)
+        let candidates = candidates_for(self.call, input.label);
+        if self.catalog.may_try_first(candidates)
+            && is_of_first(&self.context(Candidates::First)?, input)?
+        {
+            let candidates = if self.call.work == Work::Show {
+                Candidates::Labelled(0)
+            } else {
+                Candidates::First
+            };
+            return Ok(answer_of_first(&self.context(candidates)?, input)?);
+        }
+        Ok(answer_to(&self.context(candidates)?, input)?)
     }
 
     /// Writes a line for each departure of a message from DER, and how many there are.
@@ -265,8 +284,8 @@ impl<W: Write + Drop, E: Write + Drop> Session<'_, W, E> {
     /// Writes the line of an encoding.
     fn write_entry(&mut self, entry: &Entry<'_>) -> Result<(), Fault> {
         let alloc = self.alloc;
-        let known = self.catalog.known_for(alloc, self.call, None)?;
-        let line = entry_line(alloc, known, entry)?;
+        let context = self.context(Candidates::Nothing)?;
+        let line = entry_line(alloc, context.known, entry)?;
         self.write(printed(alloc, Escaping::Lines, line)?.as_bytes())
     }
 

@@ -71,11 +71,40 @@ type Answered = Result<Answer, AllocError>;
 /// # Errors
 /// `AllocError` if memory runs out.
 pub fn answer_to(context: &Context<'_>, input: &Input<'_>) -> Result<Answer, AllocError> {
-    match (context.known.candidates, context.known.types.first()) {
-        (Candidates::Named | Candidates::Labelled(_), Some(of)) => {
-            answer_by(context, &type_of(context, of), input)
-        }
-        _ => answer_by_trial(context, input),
+    let known = context.known;
+    if let (Candidates::Named | Candidates::Labelled(_), Some(of)) = (
+        known.candidates,
+        known.types.first(),
+    ) {
+        return answer_by(context, &type_of(context, of), input);
+    }
+    answer_by_trial(context, input)
+}
+
+/// Returns whether the first of the known types reads a message.
+///
+/// # Errors
+/// `AllocError` if memory runs out.
+pub(crate) fn is_of_first(context: &Context<'_>, input: &Input<'_>) -> Result<bool, AllocError> {
+    let Some(of) = context.known.types.first() else {
+        return Ok(false);
+    };
+    let wanted = as_tried(context, &type_of(context, of));
+    match check(context.alloc, &wanted, input.octets) {
+        Ok(()) => Ok(true),
+        Err(refusal) if refusal.error.is_out_of_memory() => Err(AllocError),
+        Err(_) => Ok(false),
+    }
+}
+
+/// Returns what is printed for a message that the first of the known types reads.
+///
+/// # Errors
+/// `AllocError` if memory runs out.
+pub(crate) fn answer_of_first(context: &Context<'_>, input: &Input<'_>) -> Answered {
+    match context.known.types.first() {
+        Some(of) => answer_as(context, &type_of(context, of), input),
+        None => answer_by_trial(context, input),
     }
 }
 
