@@ -1,4 +1,8 @@
 //! The types that messages may be of, each resolved once one may be of it.
+ghost use Rattle.std.specs.Prelude.{◌≡◌, [], Some, IfOk, IfSome, slice_get};
+ghost use Rattle.rasn_print.specs.declared.command_line.Work.TheVariants.{Dump};
+ghost use Rattle.rasn_print.specs.declared.known.Known.{Known};
+ghost use Rattle.rasn_print.specs.declared.known.Candidates.TheVariants.{Named, Nothing};
 
 use crate::command_line::{Call, Work};
 use crate::fault::Fault;
@@ -52,7 +56,9 @@ pub struct Catalog<'text> {
 impl<'text> Catalog<'text> {
     /// Returns a catalog of the types of these modules, or without them of those of this repository,
     /// which are read when a message may be of them.
-    pub fn new(alloc: Global, read: Option<&'text Modules<'text>>) -> Catalog<'text> {
+    pub fn new(alloc: Global, read: Option<&'text Modules<'text>>) -> Catalog<'text>
+        ensures { result.known.items ≡ [] }
+    {
         Catalog {
             read,
             known: Vec::new(alloc),
@@ -73,10 +79,9 @@ impl<'text> Catalog<'text> {
     /// Returns whether it is worth while to try the first of these types alone: all are tried, those
     /// of this repository alone, and aren't resolved yet.
     pub(crate) fn may_try_first(&self, candidates: Candidates) -> bool {
-        let mut known = self.known.iter();
         self.read.is_none()
             && candidates == Candidates::Tried
-            && known.all(|known| known.candidates != candidates)
+            && self.index_of(candidates).is_none()
     }
 
     /// Returns these types of a call.
@@ -88,17 +93,27 @@ impl<'text> Catalog<'text> {
         alloc: Global,
         call: &Call,
         candidates: Candidates,
-    ) -> Result<&Known<'text>, Fault> {
-        let mut known = self.known.iter();
-        let index = match known.position(|known| known.candidates == candidates) {
-            Some(index) => index,
-            None => {
-                let known = self.resolved(alloc, call, candidates)?;
-                self.known.push(known)?;
-                self.known.len() - 1
+    ) -> Result<&Known<'text>, Fault>
+        ensures { IfOk result (λ known. known.now.candidates ≡ candidates) }
+    {
+        if let Some(index) = self.index_of(candidates) {
+            return Ok(&self.known[index]);
+        }
+        let known = self.resolved(alloc, call, candidates)?;
+        self.known.push(known)?;
+        Ok(&self.known[self.known.len() - 1])
+    }
+
+    /// Returns the index of these types, if they are resolved.
+    fn index_of(&self, candidates: Candidates) -> Option<usize>
+        ensures { IfSome result (λ k. (known : Known) × (Some known ≡ slice_get self.now.known.items k) × (known.candidates ≡ candidates)) }
+    {
+        for (index, known) in self.known.iter().enumerate() {
+            if known.candidates == candidates {
+                return Some(index);
             }
-        };
-        Ok(&self.known[index])
+        }
+        None
     }
 
     /// Resolves the types that a message may be of.
@@ -107,7 +122,9 @@ impl<'text> Catalog<'text> {
         alloc: Global,
         call: &Call,
         candidates: Candidates,
-    ) -> Result<Known<'text>, Fault> {
+    ) -> Result<Known<'text>, Fault>
+        ensures { IfOk result (λ known. known.candidates ≡ candidates) }
+    {
         let Some(read) = self.read else {
             let read = modules_for(alloc, call, candidates)?;
             let wanted = types_for(alloc, &read, call, candidates, false)?;
@@ -119,7 +136,10 @@ impl<'text> Catalog<'text> {
 }
 
 /// Returns what decides of which type a message of a call with this label is.
-pub(crate) fn candidates_for(call: &Call, label: Option<&str>) -> Candidates {
+pub(crate) fn candidates_for(call: &Call, label: Option<&str>) -> Candidates
+    ensures dumped { call.now.work ≡ Dump → result ≡ Nothing }
+    ensures named { (call.now.work ≡ Dump → ⊥) → (name : _) → call.now.type_name ≡ Some name → result ≡ Named }
+{
     if call.work == Work::Dump {
         return Candidates::Nothing;
     }
@@ -157,9 +177,10 @@ fn texts_for(alloc: Global, call: &Call, candidates: Candidates) -> Result<Texts
             texts.add_module(module);
         }
     }
-    match contents_for(call.work, candidates) {
-        [] => {}
-        [UNIVERSAL] => texts.add_alone(CONTENTS),
+    match contents_for(call.work, candidates).len() {
+        0 => {}
+        // Values of universal types hold none of other modules.
+        1 => texts.add_alone(CONTENTS),
         _ => texts.add_module(CONTENTS),
     }
     Ok(texts)
@@ -189,7 +210,9 @@ fn known_of<'text>(
     call: &Call,
     candidates: Candidates,
     wanted: Vec<TypeRef<'text>>,
-) -> Result<Known<'text>, Fault> {
+) -> Result<Known<'text>, Fault>
+    ensures { IfOk result (λ known. known.candidates ≡ candidates) }
+{
     let mut all = Vec::from_slice(alloc, wanted.as_slice())?;
     for name in contents_for(call.work, candidates) {
         if let Some(of) = read.built_in(CONTENTS, name) {
@@ -206,14 +229,19 @@ fn known_of<'text>(
     if candidates == Candidates::Named && types.is_empty() {
         return Err(no_schema(alloc, &library));
     }
+    let universal = contents(&library, read, UNIVERSAL);
+    let open = contents(&library, read, "Open");
+    let octets = contents(&library, read, "Octets");
+    let bits = contents(&library, read, "Bits");
+    let Library { schema, .. } = library;
     Ok(Known {
+        schema,
         candidates,
         types,
-        universal: contents(&library, read, UNIVERSAL),
-        open: contents(&library, read, "Open"),
-        octets: contents(&library, read, "Octets"),
-        bits: contents(&library, read, "Bits"),
-        schema: library.schema,
+        universal,
+        open,
+        octets,
+        bits,
     })
 }
 
