@@ -92,7 +92,7 @@ pub(crate) fn is_of_first(context: &Context<'_>, input: &Input<'_>) -> Result<bo
     let wanted = as_tried(context, &type_of(context, of));
     match check(context.alloc, &wanted, input.octets) {
         Ok(()) => Ok(true),
-        Err(refusal) if refusal.error.is_out_of_memory() => Err(AllocError),
+        Err(found) if found.error.is_out_of_memory() => Err(AllocError),
         Err(_) => Ok(false),
     }
 }
