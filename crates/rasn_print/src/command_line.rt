@@ -1,4 +1,7 @@
 //! The command line.
+ghost use Rattle.std.specs.Prelude.{◌≡◌, Some, IfOk, IfSome};
+ghost use Rattle.clap.specs.Matches.{subcommand_name_of};
+ghost use Rattle.rasn_print.specs.Calls.{word_of};
 
 use clap::builder::ValueParser;
 use clap::{Arg, ArgAction, ArgMatches, Command};
@@ -305,7 +308,9 @@ fn flag<'a>(alloc: Global, name: &'a str, help: &'a str) -> Arg<'a> {
 ///
 /// # Errors
 /// `AllocError` if memory runs out.
-pub fn call_of(alloc: Global, matches: &ArgMatches<'_>) -> Result<Option<Call>, AllocError> {
+pub fn call_of(alloc: Global, matches: &ArgMatches<'_>) -> Result<Option<Call>, AllocError>
+    ensures { IfOk result (λ found. IfSome found (λ call. subcommand_name_of matches.now ≡ Some (word_of call.work))) }
+{
     let Some((name, inner)) = matches.subcommand() else {
         return Ok(None);
     };
@@ -341,7 +346,9 @@ fn owned(alloc: Global, words: &[&str]) -> Result<Vec<String>, AllocError> {
 }
 
 /// Returns the work that a subcommand asks for, which may ask for an example.
-fn work_of(name: &str, is_example: bool) -> Option<Work> {
+fn work_of(name: &str, is_example: bool) -> Option<Work>
+    ensures { IfSome result (λ work. name.now ≡ word_of work) }
+{
     match name {
         "encode" if is_example => Some(Work::Example),
         "show" => Some(Work::Show),

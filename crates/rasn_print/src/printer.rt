@@ -26,7 +26,7 @@ const MESSAGE_LEVELS: usize = 128;
 #[derive(Clone, Copy)]
 struct Place<'a> {
     alloc: Global,
-    known: &'a Known,
+    known: &'a Known<'a>,
     /// The rules by which octets inside open types are read.
     rule: Codec,
     /// How many more values may be in one another.
@@ -48,7 +48,7 @@ type Appended = Result<(), AllocError>;
 /// `AllocError` if memory runs out.
 pub fn value_text(
     alloc: Global,
-    known: &Known,
+    known: &Known<'_>,
     wanted: &MessageType<'_>,
     value: &Value<'_>,
 ) -> Result<String, AllocError> {

@@ -8,12 +8,12 @@ ghost use Rattle.rasn_print.specs.Verdicts.{IsVerdict, IsDerVerdict, IsRefusal, 
 use crate::command_line::{Call, Work};
 use crate::dump::{End, Entries, deeper_at, entry_of};
 use crate::example::example_of;
-use crate::known::Known;
+use crate::known::{Candidates, Known};
 use crate::offsets::offsets_text;
 use crate::reading::{check, read_alone, remainder, show};
 use crate::reason::{ADVICE, Reason, path_of};
 use crate::refusal_text::{extra_from, text_of};
-use crate::types::MessageType;
+use crate::types::{KnownType, MessageType};
 use base64::engine::general_purpose::STANDARD;
 use rasn_dynamic::{Refusal, WriteError, decode};
 use rasn_json::{encode, to_json};
@@ -34,10 +34,9 @@ const LINTED: usize = 256;
 pub struct Context<'a> {
     pub alloc: Global,
     pub call: &'a Call,
-    pub known: &'a Known,
-    /// The types that messages may be of: the one that the call names, or all that are known, the
-    /// first of which that reads a message is its type.
-    pub types: &'a [MessageType<'a>],
+    /// The types that messages may be of: the one that the call or a label names, or all that are
+    /// tried, the first of which that reads a message is its type.
+    pub known: &'a Known<'a>,
     /// Whether names are in bold.
     pub is_colored: bool,
 }
@@ -66,29 +65,52 @@ pub enum Answer {
 /// What is printed, unless memory runs out.
 type Answered = Result<Answer, AllocError>;
 
-/// Returns what is printed for a message: of the type that is asked for, or that its label names,
-/// or of the first of the known types that reads it.
+/// Returns what is printed for a message: of the type that decides it, or of the first of the known
+/// types that reads it.
 ///
 /// # Errors
 /// `AllocError` if memory runs out.
 pub fn answer_to(context: &Context<'_>, input: &Input<'_>) -> Result<Answer, AllocError> {
-    if let (true, Some(wanted)) = (context.call.type_name.is_some(), context.types.first()) {
-        return answer_by(context, wanted, input);
+    let known = context.known;
+    if let (Candidates::Named | Candidates::Labelled(_), Some(of)) = (
+        known.candidates,
+        known.types.first(),
+    ) {
+        return answer_by(context, &type_of(context, of), input);
     }
-    match labelled(context.types, input.label.unwrap_or("")) {
-        Some(wanted) => answer_by(context, wanted, input),
+    answer_by_trial(context, input)
+}
+
+/// Returns whether the first of the known types reads a message.
+///
+/// # Errors
+/// `AllocError` if memory runs out.
+pub(crate) fn is_of_first(context: &Context<'_>, input: &Input<'_>) -> Result<bool, AllocError> {
+    let Some(of) = context.known.types.first() else {
+        return Ok(false);
+    };
+    let wanted = as_tried(context, &type_of(context, of));
+    match check(context.alloc, &wanted, input.octets) {
+        Ok(()) => Ok(true),
+        Err(found) if found.error.is_out_of_memory() => Err(AllocError),
+        Err(_) => Ok(false),
+    }
+}
+
+/// Returns what is printed for a message that the first of the known types reads.
+///
+/// # Errors
+/// `AllocError` if memory runs out.
+pub(crate) fn answer_of_first(context: &Context<'_>, input: &Input<'_>) -> Answered {
+    match context.known.types.first() {
+        Some(of) => answer_as(context, &type_of(context, of), input),
         None => answer_by_trial(context, input),
     }
 }
 
-/// Returns the first type that has this label.
-fn labelled<'a>(types: &'a [MessageType<'a>], label: &str) -> Option<&'a MessageType<'a>> {
-    for of in types {
-        if of.labels.contains(&label) {
-            return Some(of);
-        }
-    }
-    None
+/// Returns a known type, with the rules of the call or its own.
+fn type_of<'a>(context: &Context<'a>, of: &KnownType<'a>) -> MessageType<'a> {
+    MessageType::new(&context.known.schema, of, context.call.rules)
 }
 
 /// Returns what is printed for a message of the first type that reads it, or else why it is refused
@@ -106,12 +128,10 @@ fn answer_by_trial(context: &Context<'_>, input: &Input<'_>) -> Answered {
         Err(_) => input.octets.len(),
     };
     let mut closest = None;
-    for wanted in context.types {
-        if !wanted.is_tried {
-            continue;
-        }
-        match check(alloc, &as_tried(context, wanted), input.octets) {
-            Ok(()) => return answer_as(context, wanted, input),
+    for of in &context.known.types {
+        let wanted = type_of(context, of);
+        match check(alloc, &as_tried(context, &wanted), input.octets) {
+            Ok(()) => return answer_as(context, &wanted, input),
             Err(refusal) if refusal.error.is_out_of_memory() => return Err(AllocError),
             Err(refusal) => {
                 if refusal.offset > most {
@@ -122,7 +142,7 @@ fn answer_by_trial(context: &Context<'_>, input: &Input<'_>) -> Answered {
         }
     }
     match closest {
-        Some(wanted) => answer_as(context, wanted, input),
+        Some(wanted) => answer_as(context, &wanted, input),
         None => {
             let text = format!(in alloc; "none of the known messages; {ADVICE}")?;
             refused_for(alloc, &text)
