@@ -185,6 +185,7 @@ fn run_work(rt: &HostRuntime, context: Context<'_>) -> Result<u8, Fault> {
     let files = context.call.files.as_slice();
     let has_progress = has_progress(rt, context.call.work, files.len());
     let mut status = 0;
+    session.begin()?;
     if context.call.work == Work::Example {
         session.example()?;
     } else if files.is_empty() {

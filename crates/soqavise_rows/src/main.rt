@@ -135,6 +135,7 @@ fn run(context: Context<'_>, input: &[u8]) -> Result<String, Fault> {
         refusals: Vec::new(alloc),
         is_refused: false,
     };
+    session.begin()?;
     if context.call.work == Work::Example {
         session.example()?;
     } else if context.call.has_lines {
