@@ -20,6 +20,7 @@ mod offsets;
 mod pasted;
 mod pem_fault;
 mod printer;
+mod query;
 mod reading;
 mod reason;
 mod refusal_text;

@@ -10,6 +10,7 @@ use crate::known::Candidates;
 use crate::messages::{TRUST, TRUSTED};
 use crate::pasted::unindented;
 use crate::pem_fault::block_fault;
+use crate::query::{cell_text, row_text};
 use crate::reason::Reason;
 use crate::work::{Answer, Context, Input, answer_of_first, answer_to, is_of_first, printed};
 use rasn_de::ber::de::{Decoder, DecoderOptions};
@@ -189,6 +190,9 @@ impl<W: Write + Drop, E: Write + Drop> Session<'_, W, E> {
         };
         match self.answer(&input)? {
             Answer::Done(octets) => {
+                if self.call.work == Work::Table {
+                    self.write_cell(name)?;
+                }
                 if is_headed {
                     let heading = visible(self.alloc, Escaping::Line, name)?;
                     writeln!(self.output, "{heading}").map_err(Fault::of_write)?;
@@ -236,6 +240,27 @@ impl<W: Write + Drop, E: Write + Drop> Session<'_, W, E> {
             return Ok(answer_of_first(&self.context(candidates)?, input)?);
         }
         Ok(answer_to(&self.context(candidates)?, input)?)
+    }
+
+    /// Writes the first line of a table, if one is asked for: the names of its columns, which are the
+    /// paths to the parts.
+    ///
+    /// # Errors
+    /// As `flush`.
+    pub fn begin(&mut self) -> Result<(), Fault> {
+        let call = self.call;
+        if call.work != Work::Table {
+            return Ok(());
+        }
+        self.write_cell("message")?;
+        let row = row_text(self.alloc, call, call.paths.as_slice())?;
+        self.write(row.as_bytes())
+    }
+
+    /// Writes the first cell of a row of a table.
+    fn write_cell(&mut self, text: &str) -> Result<(), Fault> {
+        let cell = cell_text(self.alloc, self.call, text)?;
+        self.write(cell.as_bytes())
     }
 
     /// Writes a line for each departure of a message from DER, and how many there are.
@@ -323,7 +348,13 @@ impl<W: Write + Drop, E: Write + Drop> Session<'_, W, E> {
         let number = index.saturating_add(1);
         match self.line_answer(line)? {
             Answer::Done(text) if text.is_empty() => self.write(b"ok\n"),
-            Answer::Done(text) => self.write(&text),
+            Answer::Done(text) => {
+                if self.call.work == Work::Table {
+                    let number = number.to_string(self.alloc)?;
+                    self.write_cell(number.as_str())?;
+                }
+                self.write(&text)
+            }
             Answer::Departures(reasons) => self.refuse_line(name, number, reasons.as_slice()),
             Answer::Refused(reason) => self.refuse_line(name, number, slice::from_ref(&reason)),
         }

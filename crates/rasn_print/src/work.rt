@@ -10,15 +10,17 @@ use crate::dump::{End, Entries, deeper_at, entry_of};
 use crate::example::example_of;
 use crate::known::{Candidates, Known};
 use crate::offsets::offsets_text;
+use crate::printer::line_text;
+use crate::query::{part_at, row_text};
 use crate::reading::{check, read_alone, remainder, show};
 use crate::reason::{ADVICE, Reason, path_of};
 use crate::refusal_text::{extra_from, text_of};
 use crate::types::{KnownType, MessageType};
 use base64::engine::general_purpose::STANDARD;
 use rasn_dynamic::{Refusal, WriteError, decode};
-use rasn_json::{encode, to_json};
+use rasn_json::{JsonError, encode, to_json};
 use rasn_lint::{Departure, LintError, OpenTypes, check as check_der, lint};
-use rasn_schema::{Type, Value, part_type, type_at};
+use rasn_schema::{Type, Value, View, part_type, type_at};
 use rasn_text::{Escaping, is_hidden, visible};
 use rasn_types::error::DecodeErrorKind;
 use rasn_types::types::{Codec, Hexadecimal, Tag};
@@ -190,6 +192,7 @@ fn answer_by(context: &Context<'_>, wanted: &MessageType<'_>, input: &Input<'_>)
         Work::Example => message.example(),
         Work::Check if wanted.rule == Codec::Der => message.checked(),
         Work::Check => message.read(),
+        Work::Get | Work::Table => message.queried(),
         Work::Show | Work::Types | Work::Dump => message.shown(),
     }
 }
@@ -443,6 +446,61 @@ impl Message<'_, '_> {
             return Ok(Answer::Done(colored(alloc, text.as_str())?.into_bytes()));
         }
         Ok(Answer::Done(text.into_bytes()))
+    }
+
+    /// Returns the values of the parts that are asked for: in a table a row of them.
+    fn queried(&self) -> Answered {
+        match read_alone(self.context.alloc, self.wanted, self.octets) {
+            Ok(value) => self.values_of(&value),
+            Err(refusal) => self.refused(refusal),
+        }
+    }
+
+    /// Returns the values of parts of a value of its type: a line for each, or a row of a table, which
+    /// has nothing for a part that is absent.
+    fn values_of(&self, value: &Value<'_>) -> Answered {
+        let (alloc, call) = (self.context.alloc, self.context.call);
+        let is_table = call.work == Work::Table;
+        let view = self.wanted.schema.view(self.wanted.root, value);
+        let mut cells = Vec::new(alloc);
+        for path in &call.paths {
+            let cell = match part_at(alloc, &view, path.as_str())? {
+                Some(part) => self.cell_of(path.as_str(), &part)?,
+                None if is_table => Ok(String::new(alloc)),
+                None => {
+                    let text = format!(in alloc; "the message has no part {path}")?;
+                    return refused_for(alloc, &text);
+                }
+            };
+            match cell {
+                Ok(cell) => cells.push(cell)?,
+                Err(error) => return refused_for(alloc, &error),
+            }
+        }
+        if is_table {
+            return Ok(Answer::Done(row_text(alloc, call, cells.as_slice())?.into_bytes()));
+        }
+        let mut lines = cells.as_slice().join(alloc, "\n")?;
+        lines.push('\n')?;
+        Ok(Answer::Done(printed(alloc, Escaping::Lines, lines)?.into_bytes()))
+    }
+
+    /// Returns the value of a part in a line: as JSON if that is asked for, or if it holds others.
+    fn cell_of(
+        &self,
+        path: &str,
+        part: &View<'_, '_>,
+    ) -> Result<Result<String, JsonError>, AllocError> {
+        let (alloc, call) = (self.context.alloc, self.context.call);
+        if !call.has_json {
+            if let Some(text) = line_text(alloc, self.context.known, path, part)? {
+                return Ok(Ok(text));
+            }
+        }
+        match to_json(alloc, part.schema, part.type_id, part.value, call.layout()) {
+            Err(error) if error.is_out_of_memory() => Err(AllocError),
+            json => Ok(json),
+        }
     }
 
     /// Returns it as JSON: in one line if a line holds a message.

@@ -200,6 +200,7 @@ fn run_files<W: Write + Drop, E: Write + Drop>(
     let files = call.files.as_slice();
     let has_progress = has_progress(rt, call.work, files.len());
     let mut status = 0;
+    session.begin()?;
     if call.work == Work::Example {
         session.example()?;
     } else if files.is_empty() {

@@ -113,6 +113,7 @@ fn run(alloc: Global, call: &Call, catalog: Catalog<'_>, input: &[u8]) -> Result
         refusals: Vec::new(alloc),
         is_refused: false,
     };
+    session.begin()?;
     if call.work == Work::Example {
         session.example()?;
     } else if call.has_lines {
