@@ -205,7 +205,7 @@ fn contents_for(work: Work, candidates: Candidates) -> &'static [&'static str] {
     match work {
         Work::Show if candidates == Candidates::First => &[],
         Work::Show => &[UNIVERSAL, "Open", "Octets", "Bits"],
-        Work::Dump => &[UNIVERSAL],
+        Work::Dump | Work::Get | Work::Table => &[UNIVERSAL],
         Work::Check
         | Work::Lint
         | Work::Json

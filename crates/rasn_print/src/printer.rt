@@ -73,7 +73,7 @@ pub fn value_text(
 /// `AllocError` if memory runs out.
 pub(crate) fn line_text(
     alloc: Global,
-    known: &Known,
+    known: &Known<'_>,
     title: &str,
     view: &View<'_, '_>,
 ) -> Result<Option<String>, AllocError> {
