@@ -27,13 +27,15 @@ _soqavise_files() {
 
 _soqavise() {
     local word=${COMP_WORDS[COMP_CWORD]} before=${COMP_WORDS[COMP_CWORD - 1]} options='--help'
-    local commands='show check lint json encode normalise types dump rust help'
+    local commands='show check lint json encode normalise types dump get table rust help'
     case ${COMP_WORDS[1]} in
         show) options+=' --offsets --color' ;;
         check | lint) options+=' --outer' ;;
+        get) options+=' --json' ;;
+        table) options+=' --csv' ;;
     esac
     case ${COMP_WORDS[1]} in
-        show | check | json | normalise)
+        show | check | json | normalise | get | table)
             options+=' --module --type --rules --lines --errors --stream --input'
             ;;
         encode) options+=' --module --type --example --rules --lines --errors' ;;

@@ -11,9 +11,9 @@ use Rattle.rasn_dynamic.specs.Steps.{IsWay, IsNoWay}
 use Rattle.rasn_dynamic.specs.Faults.{IsLocated}
 use Rattle.rasn_c.specs.Schemas.{IsAsked}
 use Rattle.rasn_c.specs.Reasons.{IsStopBy}
-use Rattle.rasn_c.specs.Paths.{AreStepsOf}
+use Rattle.rasn_dynamic.specs.PathText.{AreStepsOf}
 use Rattle.rasn_c.specs.Finding.{IsPathOf, HasNoPath, IsNoPath, IsNotFoundBy}
-use Rattle.rasn_c.proofs.PathTexts.{no_way, one_path}
+use Rattle.rasn_dynamic.proofs.PathTexts.{no_way, one_path}
 use Rattle.rasn_c.specs.declared.reasons.Stop.{Stop}
 use Rattle.rasn_c.specs.declared.status.Status.{Status}
 use Rattle.rasn_c.specs.declared.status.Status.TheVariants.{Ok, Refused, OutOfMemory, BufferTooSmall, UnknownType, UnknownRule, BadSchema, UnknownPath, Absent}

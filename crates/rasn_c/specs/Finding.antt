@@ -10,7 +10,7 @@ use Rattle.rasn_dynamic.specs.Faults.{IsLocated, start}
 use Rattle.rasn_dynamic.specs.Parts.{IsPartAt, LacksPath}
 use Rattle.rasn_dynamic.specs.Steps.{IsWay, IsNoWay}
 use Rattle.rasn_c.specs.Schemas.{IsAsked, IsNotAsked}
-use Rattle.rasn_c.specs.Paths.{AreStepsOf}
+use Rattle.rasn_dynamic.specs.PathText.{AreStepsOf}
 use Rattle.rasn_c.specs.Extents.{IsExtentOf, no_extent}
 use Rattle.rasn_c.specs.Reasons.{IsStopOf, IsReported}
 use Rattle.rasn_c.specs.declared.extent.Extent.{Extent}

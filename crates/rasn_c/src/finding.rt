@@ -4,11 +4,10 @@ ghost use Rattle.rasn_c.specs.Status.{IsNumberOf};
 ghost use Rattle.rasn_c.specs.Finding.{AnswersFind, IsFound, IsNotFound, IsPathOf, IsNoPath, IsGiven};
 
 use crate::extent::{Extent, NO_EXTENT, extent_of};
-use crate::paths::steps_of;
 use crate::reasons::{Reason, Stop, report, stop_of, without_memory};
 use crate::schemas::{Query, query_of};
 use crate::status::Status;
-use rasn_dynamic::{find_part, path_named};
+use rasn_dynamic::{find_part, path_named, steps_of};
 use std::alloc::Global;
 use std::str;
 

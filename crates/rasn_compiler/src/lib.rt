@@ -6,6 +6,7 @@ mod class;
 mod component;
 mod fault;
 mod given;
+mod hint;
 mod imports;
 mod lexer;
 mod library;
@@ -23,6 +24,7 @@ mod token;
 mod tree;
 mod types;
 mod value;
+mod warnings;
 mod words;
 
 pub use fault::{Fault, Problem, Stop};
@@ -34,5 +36,5 @@ pub use resolver::Resolved;
 pub use steps::Steps;
 pub use tree::{
     Actual, Assigned, Assignment, Base, Builtin, Component, Field, Given, Import, ListOf, Module,
-    NamedNumber, Presence, Tag, TagClass, Tagging, Type, TypeIndex, Unread, Value,
+    NamedNumber, Presence, Symbol, Tag, TagClass, Tagging, Type, TypeIndex, Unread, Value,
 };

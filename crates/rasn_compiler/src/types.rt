@@ -1,5 +1,5 @@
 //! Types (X.680 17).
-use crate::fault::Halt;
+use crate::fault::{Halt, Problem};
 use crate::parser::Parser;
 use crate::position::Position;
 use crate::token::Kind;
@@ -266,11 +266,31 @@ impl<'tokens, 'text> Parser<'tokens, 'text> {
             self.expect("STRING")?;
         }
         let names = self.named_numbers()?;
+        if word == "BIT" {
+            self.check_bits(names.as_slice())?;
+        }
         Ok(match word {
             "INTEGER" => Base::Integer(names),
             "ENUMERATED" => Base::Enumerated(names),
             _ => Base::BitString(names),
         })
+    }
+
+    /// Refuses the number of a bit that is below 0 (X.680 22.4).
+    fn check_bits(&self, names: &[NamedNumber<'text>]) -> Result<(), Halt<'text>> {
+        for named in names {
+            if let Some(
+                Value::Number {
+                    is_negative: true,
+                    ..
+                },
+            ) = named.number
+            {
+                let rule = "the number of a bit is below 0 (X.680 22.4)";
+                return Err(self.refuse_at(named.position, Problem::Broken(rule)));
+            }
+        }
+        Ok(())
     }
 
     /// Reads INSTANCE OF (X.681 C).
@@ -347,7 +367,7 @@ impl<'tokens, 'text> Parser<'tokens, 'text> {
 }
 
 /// The types that one word names.
-const BUILTINS: [(&str, Builtin); 28] = [
+pub(crate) const BUILTINS: [(&str, Builtin); 28] = [
     ("BMPString", Builtin::BmpString),
     ("BOOLEAN", Builtin::Boolean),
     ("DATE", Builtin::Date),
@@ -376,6 +396,20 @@ const BUILTINS: [(&str, Builtin); 28] = [
     ("VideotexString", Builtin::VideotexString),
     ("VisibleString", Builtin::VisibleString),
     ("ISO646String", Builtin::VisibleString),
+];
+
+/// The words that other types begin with.
+pub(crate) const OTHER_TYPES: [&str; 10] = [
+    "BIT STRING",
+    "CHARACTER STRING",
+    "CHOICE",
+    "EMBEDDED PDV",
+    "ENUMERATED",
+    "INTEGER",
+    "OBJECT IDENTIFIER",
+    "OCTET STRING",
+    "SEQUENCE",
+    "SET",
 ];
 
 /// Returns the type that the word names alone.

@@ -50,10 +50,10 @@ impl<'tokens, 'text> Parser<'tokens, 'text> {
                 Ok(Some(self.outside_value()?))
             }
             Kind::Fixed => self.fixed_value(),
-            Kind::Unfinished => Err(self.refuse_at(
-                self.position(),
-                Problem::Expected("the end of a string or a comment"),
-            )),
+            Kind::Unfinished => {
+                let missing = "the end of a string or a comment";
+                Err(self.refuse_at(self.position(), Problem::Expected(missing)))
+            }
             _ => Ok(None),
         }
     }

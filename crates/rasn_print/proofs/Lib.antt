@@ -1,1 +1,3 @@
+pub mod Offsets
 pub mod Verdicts
+pub mod Worked

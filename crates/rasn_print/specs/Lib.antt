@@ -1,2 +1,5 @@
+pub mod Calls
 pub mod Reading
+pub mod Reasons
 pub mod Verdicts
+pub mod Worked

@@ -1,4 +1,7 @@
 //! The command line.
+ghost use Rattle.std.specs.Prelude.{◌≡◌, Some, IfOk, IfSome};
+ghost use Rattle.clap.specs.Matches.{subcommand_name_of};
+ghost use Rattle.rasn_print.specs.Calls.{word_of};
 
 use clap::builder::ValueParser;
 use clap::{Arg, ArgAction, ArgMatches, Command};
@@ -20,13 +23,18 @@ pub enum Work {
     Normalise,
     Types,
     Dump,
+    /// Prints the values of parts, a line for each.
+    Get,
+    /// Prints the values of parts, a line for each message.
+    Table,
 }
 
 impl Work {
-    /// Returns whether what is printed for messages is messages.
+    /// Returns whether what is printed for messages is messages, or values of them.
     pub(crate) fn prints_data(self) -> bool {
         match self {
-            Work::Json | Work::Encode | Work::Example | Work::Normalise => true,
+            Work::Json | Work::Encode | Work::Example | Work::Normalise | Work::Get | Work::Table =>
+                true,
             Work::Show | Work::Check | Work::Lint | Work::Types | Work::Dump => false,
         }
     }
@@ -58,6 +66,8 @@ pub struct Call {
     pub work: Work,
     /// The files of messages; none for standard input.
     pub files: Vec<String>,
+    /// The paths to the parts that are asked for.
+    pub paths: Vec<String>,
     /// The files of modules.
     pub modules: Vec<String>,
     /// The type, perhaps with its module before it.
@@ -74,13 +84,17 @@ pub struct Call {
     pub has_json_errors: bool,
     /// Reads messages that follow one another, with nothing between them.
     pub is_stream: bool,
+    /// Whether the values of parts are JSON.
+    pub has_json: bool,
+    /// Whether the columns of a table have commas between them, and not tabs.
+    pub is_csv: bool,
     pub color: ColorChoice,
 }
 
 impl Call {
     /// Returns how JSON is laid out: in one line if a line holds a message.
     pub(crate) fn layout(&self) -> Layout {
-        if self.has_lines {
+        if self.has_lines || self.work != Work::Json {
             Layout::Compact
         } else {
             Layout::Indented
@@ -108,7 +122,9 @@ pub fn command<'a>(alloc: Global) -> Result<Command<'a>, AllocError> {
         .subcommand(encode_command(alloc)?)?
         .subcommand(normalise_command(alloc)?)?
         .subcommand(types_command(alloc)?)?
-        .subcommand(dump_command(alloc)?)
+        .subcommand(dump_command(alloc)?)?
+        .subcommand(get_command(alloc)?)?
+        .subcommand(table_command(alloc)?)
 }
 
 fn show_command<'a>(alloc: Global) -> Result<Command<'a>, AllocError> {
@@ -202,10 +218,49 @@ fn dump_command<'a>(alloc: Global) -> Result<Command<'a>, AllocError> {
         .arg(files(alloc))
 }
 
+fn get_command<'a>(alloc: Global) -> Result<Command<'a>, AllocError> {
+    of_parts(alloc, "get", "Prints the values of parts, a line for each")?
+        .after_help("Example: soqavise get subject,validity.notAfter cert.pem")
+        .arg(rules(alloc, READ))?
+        .arg(flag(alloc, "json", "Prints values as JSON (X.697)"))
+}
+
+fn table_command<'a>(alloc: Global) -> Result<Command<'a>, AllocError> {
+    of_parts(
+        alloc,
+        "table",
+        "Prints a line for each message, with the values of these parts",
+    )?
+    .after_help("Example: soqavise table subject,validity.notAfter *.pem")
+    .arg(rules(alloc, READ))?
+    .arg(flag(
+        alloc,
+        "csv",
+        "Prints commas between the columns, and not tabs",
+    ))
+}
+
+/// Returns a command on parts of messages.
+fn of_parts<'a>(alloc: Global, name: &'a str, about: &'a str) -> Result<Command<'a>, AllocError> {
+    with_messages(
+        alloc,
+        Command::new(alloc, name).about(about).arg(
+            Arg::new(alloc, "path")
+                .value_name("PATH[,PATH]..")
+                .required(true)
+                .help("Names and indices, as subject or extensions[0].extnValue"),
+        )?,
+    )
+}
+
 /// Returns a command on messages.
 fn messages<'a>(alloc: Global, name: &'a str, about: &'a str) -> Result<Command<'a>, AllocError> {
-    Command::new(alloc, name)
-        .about(about)
+    with_messages(alloc, Command::new(alloc, name).about(about))
+}
+
+/// Returns a command with the options of those on messages.
+fn with_messages<'a>(alloc: Global, command: Command<'a>) -> Result<Command<'a>, AllocError> {
+    command
         .arg(modules(alloc))?
         .arg(type_name(alloc))?
         .arg(
@@ -305,7 +360,9 @@ fn flag<'a>(alloc: Global, name: &'a str, help: &'a str) -> Arg<'a> {
 ///
 /// # Errors
 /// `AllocError` if memory runs out.
-pub fn call_of(alloc: Global, matches: &ArgMatches<'_>) -> Result<Option<Call>, AllocError> {
+pub fn call_of(alloc: Global, matches: &ArgMatches<'_>) -> Result<Option<Call>, AllocError>
+    ensures { IfOk result (λ found. IfSome found (λ call. subcommand_name_of matches.now ≡ Some (word_of call.work))) }
+{
     let Some((name, inner)) = matches.subcommand() else {
         return Ok(None);
     };
@@ -315,6 +372,7 @@ pub fn call_of(alloc: Global, matches: &ArgMatches<'_>) -> Result<Option<Call>, 
     Ok(Some(Call {
         work,
         files: owned(alloc, inner.get_strs("file").unwrap_or(&[]))?,
+        paths: paths_of(alloc, inner.get_str("path"))?,
         modules: owned(alloc, inner.get_strs("module").unwrap_or(&[]))?,
         type_name: match inner.get_str("type").or(inner.get_str("example")) {
             Some(name) => Some(String::from_str(alloc, name)?),
@@ -327,6 +385,8 @@ pub fn call_of(alloc: Global, matches: &ArgMatches<'_>) -> Result<Option<Call>, 
         has_lines: inner.get_flag("lines"),
         has_json_errors: inner.get_str("errors") == Some("json"),
         is_stream: inner.get_flag("stream"),
+        has_json: inner.get_flag("json"),
+        is_csv: inner.get_flag("csv"),
         color: color_of(inner.get_str("color")),
     }))
 }
@@ -340,8 +400,21 @@ fn owned(alloc: Global, words: &[&str]) -> Result<Vec<String>, AllocError> {
     Ok(copies)
 }
 
+/// Returns copies of the paths between commas.
+fn paths_of(alloc: Global, paths: Option<&str>) -> Result<Vec<String>, AllocError> {
+    let mut copies = Vec::new(alloc);
+    if let Some(paths) = paths {
+        for path in paths.split(',') {
+            copies.push(String::from_str(alloc, path)?)?;
+        }
+    }
+    Ok(copies)
+}
+
 /// Returns the work that a subcommand asks for, which may ask for an example.
-fn work_of(name: &str, is_example: bool) -> Option<Work> {
+fn work_of(name: &str, is_example: bool) -> Option<Work>
+    ensures { IfSome result (λ work. name.now ≡ word_of work) }
+{
     match name {
         "encode" if is_example => Some(Work::Example),
         "show" => Some(Work::Show),
@@ -352,6 +425,8 @@ fn work_of(name: &str, is_example: bool) -> Option<Work> {
         "normalise" => Some(Work::Normalise),
         "types" => Some(Work::Types),
         "dump" => Some(Work::Dump),
+        "get" => Some(Work::Get),
+        "table" => Some(Work::Table),
         _ => None,
     }
 }

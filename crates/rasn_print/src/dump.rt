@@ -247,7 +247,7 @@ pub(crate) fn entry_of(
 /// have, its tag, and the value if it is one of a universal type that holds no others.
 pub(crate) fn entry_line(
     alloc: Global,
-    known: &Known,
+    known: &Known<'_>,
     entry: &Entry<'_>,
 ) -> Result<String, AllocError> {
     let (offset, header_len, len) = (entry.offset, entry.header_len, entry.octets.len());
@@ -299,7 +299,7 @@ pub(crate) fn push_indent(text: &mut String, depth: usize) -> Result<(), AllocEr
 pub(crate) fn push_entry(
     text: &mut String,
     alloc: Global,
-    known: &Known,
+    known: &Known<'_>,
     entry: &Entry<'_>,
 ) -> Result<(), AllocError> {
     text.push_str(tag_text(alloc, entry.tag)?.as_str())?;
@@ -313,7 +313,7 @@ pub(crate) fn push_entry(
 /// Returns the value of a primitive encoding: by its universal type, or as text or hexadecimal.
 pub(crate) fn primitive_text(
     alloc: Global,
-    known: &Known,
+    known: &Known<'_>,
     entry: &Entry<'_>,
 ) -> Result<String, AllocError> {
     match &known.universal_value(alloc, entry.octets)? {

@@ -1,4 +1,7 @@
 //! A value of a type to begin with.
+ghost use Rattle.std.specs.Prelude.{◌≡◌, replicate, IfOk, IfSome};
+ghost use Rattle.rasn_types.specs.Shapes.{number, numbers};
+ghost use Rattle.rasn_schema.specs.Trees.{tree_of};
 
 use rasn_schema::{
     Alternative, Component, LeafKind, NamedNumber, Presence, Schema, Type, TypeId, Value, type_at,
@@ -251,12 +254,16 @@ fn leaf(alloc: Global, kind: LeafKind, constraints: &Constraints, names: &[Named
 }
 
 /// Returns a number.
-fn number(alloc: Global, number: i128) -> Made {
-    Ok(Some(Value::Integer(Integer::from_i128(alloc, number)?)))
+fn number(alloc: Global, value: i128) -> Made
+    ensures { IfOk result (λ made. IfSome made (λ v. tree_of v ≡ number value)) }
+{
+    Ok(Some(Value::Integer(Integer::from_i128(alloc, value)?)))
 }
 
 /// Returns so many octets.
-fn octets(alloc: Global, octet: u8, count: usize) -> Made {
+fn octets(alloc: Global, octet: u8, count: usize) -> Made
+    ensures { IfOk result (λ made. IfSome made (λ v. tree_of v ≡ numbers (replicate count octet))) }
+{
     let octets = vec![in alloc; octet; count]?;
     Ok(Some(Value::Octets(CowSlice::Owned(octets))))
 }

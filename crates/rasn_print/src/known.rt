@@ -1,5 +1,6 @@
 //! Types of what is in open types and in strings whose octets are an encoding.
 
+use crate::types::KnownType;
 use rasn_dynamic::decode;
 use rasn_schema::{Schema, Type, TypeId, Value, index_named, part_type, type_at};
 use rasn_types::types::Codec;
@@ -13,11 +14,42 @@ pub(crate) enum Form {
     Bits,
 }
 
-/// The types of a call, in one schema: those of messages, and those of what extensions, attributes
-/// and contents hold, by identifier, which are the ones of the module Contents (`contents.asn1`).
+/// What decides of which type a message is.
+#[derive(Clone, Copy, Debug, PartialEq, Eq)]
+pub(crate) enum Candidates {
+    /// The call, which names its type.
+    Named,
+    /// Its label, which is one of the message of a standard with this index.
+    Labelled(usize),
+    /// Whether the first of the types that are tried reads it.
+    First,
+    /// Which of the types that are tried is the first to read it.
+    Tried,
+    /// Nothing: its encodings are shown without a type.
+    Nothing,
+}
+
+impl Candidates {
+    /// Returns whether the type of the message of a standard with this index is one of them.
+    pub(crate) fn have(self, index: usize, is_tried: bool) -> bool {
+        match self {
+            Candidates::Labelled(labelled) => labelled == index,
+            Candidates::First => index == 0,
+            Candidates::Tried => is_tried,
+            Candidates::Named | Candidates::Nothing => false,
+        }
+    }
+}
+
+/// Types of a call, in one schema: those that a message may be of and, for work that shows it, those
+/// of what extensions, attributes and contents hold, by identifier, which are the ones of the module
+/// Contents (`contents.asn1`).
 #[derive(Drop)]
-pub struct Known {
+pub struct Known<'text> {
     pub(crate) schema: Schema,
+    pub(crate) candidates: Candidates,
+    /// The types that a message may be of: a single one, unless they are tried.
+    pub(crate) types: Vec<KnownType<'text>>,
     /// The types of the module Contents.
     pub(crate) universal: Option<TypeId>,
     pub(crate) open: Option<TypeId>,
@@ -25,7 +57,7 @@ pub struct Known {
     pub(crate) bits: Option<TypeId>,
 }
 
-impl Known {
+impl Known<'_> {
     /// Returns the value of the type `Universal` whose encoding in BER these octets are.
     pub(crate) fn universal_value<'input>(
         &self,

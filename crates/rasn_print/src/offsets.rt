@@ -1,4 +1,8 @@
 //! The parts of a message with their places.
+ghost use Rattle.std.specs.Prelude.{◌≡◌, IfOk, IfErr};
+ghost use Rattle.rasn_types.specs.Errors.{IsOutOfMemory};
+ghost use Rattle.rasn_lint.specs.Lint.{rest_after};
+ghost use Rattle.rasn_print.specs.Reading.{IsMessage, IsAtFault};
 
 use crate::dump::push_place;
 use crate::leaf::leaf_text;
@@ -18,14 +22,26 @@ pub fn offsets_text(
     alloc: Global,
     wanted: &MessageType<'_>,
     octets: &[u8],
-) -> Result<String, Refusal> {
+) -> Result<String, Refusal>
+    ensures ok { IfOk result (λ _. IsMessage wanted.now octets.now) }
+    ensures err { IfErr result (λ r. (IsOutOfMemory r.error.kind → ⊥) → IsAtFault wanted.now octets.now r) }
+{
     let mut parts = parts_of(alloc, wanted.rule, wanted.schema, wanted.root, octets)?;
-    let end = match parts.list.first() {
-        Some(whole) => whole.octets.len(),
-        None => 0,
-    };
-    refuse_rest(alloc, wanted, octets, octets.get(end..).unwrap_or(&[]))?;
-    text_of(alloc, wanted, &mut parts).map_err(|_| out_of_memory(alloc, wanted))
+    refuse_rest(alloc, wanted, octets, rest_of(&parts, octets))?;
+    match text_of(alloc, wanted, &mut parts) {
+        Ok(text) => Ok(text),
+        Err(_) => Err(out_of_memory(alloc, wanted)),
+    }
+}
+
+/// Returns what follows the message that octets begin with, which has these parts.
+fn rest_of<'input>(parts: &MessageParts<'_>, octets: &'input [u8]) -> &'input [u8]
+    ensures { result.now ≡ rest_after parts.now.list.items octets.now }
+{
+    match parts.list.first() {
+        Some(whole) => octets.get(whole.octets.len()..).unwrap_or(&[]),
+        None => octets,
+    }
 }
 
 /// Returns the lines of all parts.

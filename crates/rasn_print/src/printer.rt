@@ -26,7 +26,7 @@ const MESSAGE_LEVELS: usize = 128;
 #[derive(Clone, Copy)]
 struct Place<'a> {
     alloc: Global,
-    known: &'a Known,
+    known: &'a Known<'a>,
     /// The rules by which octets inside open types are read.
     rule: Codec,
     /// How many more values may be in one another.
@@ -48,7 +48,7 @@ type Appended = Result<(), AllocError>;
 /// `AllocError` if memory runs out.
 pub fn value_text(
     alloc: Global,
-    known: &Known,
+    known: &Known<'_>,
     wanted: &MessageType<'_>,
     value: &Value<'_>,
 ) -> Result<String, AllocError> {
@@ -64,6 +64,52 @@ pub fn value_text(
     let mut text = String::new(alloc);
     print(&mut text, place, &wanted.schema.view(wanted.root, value))?;
     Ok(text)
+}
+
+/// Returns a value in a line, if it is one that holds no others, a name or an address: text as it is,
+/// and other values as `value_text` has them.
+///
+/// # Errors
+/// `AllocError` if memory runs out.
+pub(crate) fn line_text(
+    alloc: Global,
+    known: &Known<'_>,
+    title: &str,
+    view: &View<'_, '_>,
+) -> Result<Option<String>, AllocError> {
+    let place = Place {
+        alloc,
+        known,
+        rule: Codec::Ber,
+        levels: LEVELS,
+        depth: 0,
+        title,
+        hint: None,
+    };
+    let mut title = String::from_str(alloc, title)?;
+    let (inner, shown) = innermost(&mut title, place, view)?;
+    if shown.is_some() {
+        return Ok(shown);
+    }
+    if let Value::Text(text) = inner.value {
+        return Ok(Some(String::from_str(alloc, text.as_str())?));
+    }
+    match type_at(inner.schema.types(), inner.type_id) {
+        Some(ty @ (Type::Leaf { .. } | Type::Enumerated { .. })) => {
+            Ok(Some(leaf_text(alloc, Some(ty), inner.value)?))
+        }
+        Some(
+            Type::Tagged { .. }
+            | Type::Choice { .. }
+            | Type::Sequence { .. }
+            | Type::Set { .. }
+            | Type::SequenceOf { .. }
+            | Type::SetOf { .. }
+            | Type::Any { .. }
+            | Type::Unknown,
+        )
+        | None => Ok(None),
+    }
 }
 
 /// Appends a line of a title and a value.
@@ -120,7 +166,9 @@ fn innermost<'view, 'input>(
 
 /// Returns what is in an explicit tag, or the alternative of a CHOICE with its name, which is empty
 /// if it is the only one. Returns `None` of other values.
-fn inside<'view, 'input>(view: &View<'view, 'input>) -> Option<(&'view str, View<'view, 'input>)> {
+pub(crate) fn inside<'view, 'input>(
+    view: &View<'view, 'input>,
+) -> Option<(&'view str, View<'view, 'input>)> {
     let ty = type_at(view.schema.types(), view.type_id)?;
     if let Type::Tagged { inner, .. } = ty {
         return Some(("", view.schema.view(*inner, view.value)));

@@ -1,4 +1,6 @@
 //! Why a message is refused, and where.
+ghost use Rattle.std.specs.Prelude.{◌≡◌, IfOk, string_bytes};
+ghost use Rattle.rasn_print.specs.Reasons.{IsOfNoPlace, line_of};
 
 use json::Writer;
 use rasn_dynamic::Refusal;
@@ -28,7 +30,9 @@ impl Reason {
     ///
     /// # Errors
     /// `AllocError` if memory runs out.
-    pub(crate) fn of<T: fmt::Display>(alloc: Global, text: &T) -> Result<Reason, AllocError> {
+    pub(crate) fn of<T: fmt::Display>(alloc: Global, text: &T) -> Result<Reason, AllocError>
+        ensures { IfOk result IsOfNoPlace }
+    {
         Ok(Reason {
             guess: None,
             path: String::new(alloc),
@@ -41,7 +45,9 @@ impl Reason {
     ///
     /// # Errors
     /// `AllocError` if memory runs out.
-    pub(crate) fn to_line(&self, alloc: Global) -> Result<String, AllocError> {
+    pub(crate) fn to_line(&self, alloc: Global) -> Result<String, AllocError>
+        ensures { IfOk result (λ line. string_bytes line ≡ line_of self.now) }
+    {
         let (path, text) = (&self.path, &self.text);
         let mut line = String::new(alloc);
         if let Some(name) = &self.guess {

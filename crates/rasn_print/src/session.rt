@@ -1,14 +1,18 @@
 //! Goes over the messages of inputs.
+ghost use Rattle.std.specs.Prelude.{◌≡◌, true};
 
-use crate::command_line::Work;
+use crate::catalog::{Catalog, candidates_for};
+use crate::command_line::{Call, Work};
 use crate::dump::{Entries, Entry, entry_line, fault_text};
 use crate::fault::Fault;
 use crate::input::{Form, form_of, from_line, is_plain_text, why_not_hexadecimal, without_mark};
+use crate::known::Candidates;
 use crate::messages::{TRUST, TRUSTED};
 use crate::pasted::unindented;
 use crate::pem_fault::block_fault;
+use crate::query::{cell_text, row_text};
 use crate::reason::Reason;
-use crate::work::{Answer, Context, Input, answer_to, printed};
+use crate::work::{Answer, Context, Input, answer_of_first, answer_to, is_of_first, printed};
 use rasn_de::ber::de::{Decoder, DecoderOptions};
 use rasn_text::{Block, Escaping, visible};
 use rasn_types::types::Codec;
@@ -22,7 +26,11 @@ const NO_FORM: &str = "; the input is text, but neither PEM, hexadecimal digits 
 /// Processes messages, and prints the results.
 #[derive(Drop)]
 pub struct Session<'a, W: Write + Drop, E: Write + Drop> {
-    pub context: Context<'a>,
+    pub alloc: Global,
+    pub call: &'a Call,
+    pub catalog: Catalog<'a>,
+    /// Whether names are in bold.
+    pub is_colored: bool,
     pub output: W,
     pub refusals: E,
     /// Whether a message was refused.
@@ -31,14 +39,18 @@ pub struct Session<'a, W: Write + Drop, E: Write + Drop> {
 
 impl<W: Write + Drop, E: Write + Drop> Session<'_, W, E> {
     /// Writes octets.
-    fn write(&mut self, octets: &[u8]) -> Result<(), Fault> {
+    fn write(&mut self, octets: &[u8]) -> Result<(), Fault>
+        ensures { self.new.is_refused ≡ self.old.is_refused }
+    {
         self.output.write_all(octets).map_err(Fault::of_write)
     }
 
     /// Writes why a message of the input with this name is refused.
-    fn refuse<T: fmt::Display>(&mut self, name: &str, reason: &T) -> Result<(), Fault> {
+    fn refuse<T: fmt::Display>(&mut self, name: &str, reason: &T) -> Result<(), Fault>
+        ensures { self.new.is_refused ≡ true }
+    {
         self.is_refused = true;
-        let line = line_of(self.context.alloc, name, reason)?;
+        let line = line_of(self.alloc, name, reason)?;
         self.refusals
             .write_all(line.as_bytes())
             .map_err(Fault::of_write)
@@ -49,7 +61,9 @@ impl<W: Write + Drop, E: Write + Drop> Session<'_, W, E> {
     /// # Errors
     /// `Write` if it can't be written, `Closed` if its reader has gone, `Memory` if memory runs
     /// out.
-    pub fn flush(&mut self) -> Result<(), Fault> {
+    pub fn flush(&mut self) -> Result<(), Fault>
+        ensures { self.new.is_refused ≡ self.old.is_refused }
+    {
         self.output.flush().map_err(Fault::of_write)
     }
 
@@ -59,18 +73,18 @@ impl<W: Write + Drop, E: Write + Drop> Session<'_, W, E> {
     /// # Errors
     /// As `flush`.
     pub fn input(&mut self, name: &str, octets: &[u8]) -> Result<(), Fault> {
-        let alloc = self.context.alloc;
+        let alloc = self.alloc;
         let plain = unindented(alloc, without_mark(octets))?;
         let text = match &plain {
             Some(text) => text.as_slice(),
             None => without_mark(octets),
         };
-        let is_headed = self.context.call.work == Work::Show && self.context.call.files.len() > 1;
-        match form_of(alloc, self.context.call, text)? {
+        let is_headed = self.call.work == Work::Show && self.call.files.len() > 1;
+        match form_of(alloc, self.call, text)? {
             Form::Pem(blocks) => self.pem(name, text, blocks.as_slice(), is_headed),
             Form::Text(octets) => self.octets(name, &octets, true, is_headed),
             Form::Wrong(reason) => self.refuse(name, &reason),
-            Form::Octets if self.context.call.work == Work::Encode => {
+            Form::Octets if self.call.work == Work::Encode => {
                 self.message(name, text, None, false, is_headed)
             }
             Form::Octets => self.octets(name, octets, false, is_headed),
@@ -86,11 +100,11 @@ impl<W: Write + Drop, E: Write + Drop> Session<'_, W, E> {
         is_text: bool,
         is_headed: bool,
     ) -> Result<(), Fault> {
-        if !self.context.call.is_stream {
+        if !self.call.is_stream {
             return self.message(name, octets, None, is_text, is_headed);
         }
-        let alloc = self.context.alloc;
-        let is_headed = self.context.call.work == Work::Show;
+        let alloc = self.alloc;
+        let is_headed = self.call.work == Work::Show;
         let mut rest = octets;
         // Each encoding has an octet of its own.
         for _ in octets {
@@ -115,8 +129,8 @@ impl<W: Write + Drop, E: Write + Drop> Session<'_, W, E> {
         blocks: &[Block<'_>],
         is_headed: bool,
     ) -> Result<(), Fault> {
-        let alloc = self.context.alloc;
-        let is_headed = is_headed || (self.context.call.work == Work::Show && blocks.len() > 1);
+        let alloc = self.alloc;
+        let is_headed = is_headed || (self.call.work == Work::Show && blocks.len() > 1);
         if blocks.is_empty() {
             return self.refuse(name, &"no line -----BEGIN LABEL-----");
         }
@@ -149,11 +163,11 @@ impl<W: Write + Drop, E: Write + Drop> Session<'_, W, E> {
         label: &str,
         octets: &'octets [u8],
     ) -> (&'octets [u8], &'octets [u8]) {
-        let call = self.context.call;
+        let call = self.call;
         if label != TRUSTED || call.type_name.is_some() || call.work == Work::Dump {
             return (octets, &[]);
         }
-        first_encoding(self.context.alloc, octets)
+        first_encoding(self.alloc, octets)
     }
 
     /// Works on a message, which may be in a block of PEM with this label or handed over as text, and
@@ -166,7 +180,7 @@ impl<W: Write + Drop, E: Write + Drop> Session<'_, W, E> {
         is_text: bool,
         is_headed: bool,
     ) -> Result<(), Fault> {
-        if self.context.call.work == Work::Dump {
+        if self.call.work == Work::Dump {
             return self.dump(name, octets);
         }
         let input = Input {
@@ -174,19 +188,22 @@ impl<W: Write + Drop, E: Write + Drop> Session<'_, W, E> {
             label,
             is_text,
         };
-        match answer_to(&self.context, &input)? {
+        match self.answer(&input)? {
             Answer::Done(octets) => {
+                if self.call.work == Work::Table {
+                    self.write_cell(name)?;
+                }
                 if is_headed {
-                    let heading = visible(self.context.alloc, Escaping::Line, name)?;
+                    let heading = visible(self.alloc, Escaping::Line, name)?;
                     writeln!(self.output, "{heading}").map_err(Fault::of_write)?;
                 }
                 self.write(&octets)
             }
             Answer::Departures(reasons) => self.write_departures(name, reasons.as_slice()),
             Answer::Refused(reason) => {
-                let mut text = reason.to_line(self.context.alloc)?;
+                let mut text = reason.to_line(self.alloc)?;
                 let is_octets = label.is_none() && !is_text;
-                if is_octets && self.context.call.work != Work::Encode && is_plain_text(octets) {
+                if is_octets && self.call.work != Work::Encode && is_plain_text(octets) {
                     text.push_str(NO_FORM)?;
                 }
                 self.refuse(name, &text)
@@ -194,9 +211,63 @@ impl<W: Write + Drop, E: Write + Drop> Session<'_, W, E> {
         }
     }
 
+    /// Returns what messages are worked on with that may be of these types.
+    fn context(&mut self, candidates: Candidates) -> Result<Context<'_>, Fault>
+        ensures { self.new.is_refused ≡ self.old.is_refused }
+    {
+        Ok(Context {
+            alloc: self.alloc,
+            call: self.call,
+            known: self.catalog.known_for(self.alloc, self.call, candidates)?,
+            is_colored: self.is_colored,
+        })
+    }
+
+    /// Returns what is printed for a message. While the types that are tried aren't resolved, the
+    /// first of them is tried alone.
+    fn answer(&mut self, input: &Input<'_>) -> Result<Answer, Fault>
+        ensures { self.new.is_refused ≡ self.old.is_refused }
+    {
+        let candidates = candidates_for(self.call, input.label);
+        if self.catalog.may_try_first(candidates)
+            && is_of_first(&self.context(Candidates::First)?, input)?
+        {
+            let candidates = if self.call.work == Work::Show {
+                Candidates::Labelled(0)
+            } else {
+                Candidates::First
+            };
+            return Ok(answer_of_first(&self.context(candidates)?, input)?);
+        }
+        Ok(answer_to(&self.context(candidates)?, input)?)
+    }
+
+    /// Writes the first line of a table, if one is asked for: the names of its columns, which are the
+    /// paths to the parts.
+    ///
+    /// # Errors
+    /// As `flush`.
+    pub fn begin(&mut self) -> Result<(), Fault> {
+        let call = self.call;
+        if call.work != Work::Table {
+            return Ok(());
+        }
+        self.write_cell("message")?;
+        let row = row_text(self.alloc, call, call.paths.as_slice())?;
+        self.write(row.as_bytes())
+    }
+
+    /// Writes the first cell of a row of a table.
+    fn write_cell(&mut self, text: &str) -> Result<(), Fault> {
+        let cell = cell_text(self.alloc, self.call, text)?;
+        self.write(cell.as_bytes())
+    }
+
     /// Writes a line for each departure of a message from DER, and how many there are.
-    fn write_departures(&mut self, name: &str, reasons: &[Reason]) -> Result<(), Fault> {
-        let alloc = self.context.alloc;
+    fn write_departures(&mut self, name: &str, reasons: &[Reason]) -> Result<(), Fault>
+        ensures { self.new.is_refused ≡ true }
+    {
+        let alloc = self.alloc;
         self.is_refused = true;
         for reason in reasons {
             let line = line_of(alloc, name, &reason.to_line(alloc)?)?;
@@ -220,14 +291,14 @@ impl<W: Write + Drop, E: Write + Drop> Session<'_, W, E> {
 
     /// Prints the encodings of octets, each as soon as it is read.
     fn dump(&mut self, name: &str, octets: &[u8]) -> Result<(), Fault> {
-        let mut entries = Entries::new(self.context.alloc, octets);
+        let mut entries = Entries::new(self.alloc, octets);
         // Each encoding has an octet of its own.
         for _ in octets {
             match entries.next() {
                 Ok(Some(entry)) => self.write_entry(&entry)?,
                 Ok(None) => return Ok(()),
                 Err(error) => {
-                    let fault = fault_text(self.context.alloc, &entries, &error)?;
+                    let fault = fault_text(self.alloc, &entries, &error)?;
                     return self.refuse(name, &fault);
                 }
             }
@@ -237,8 +308,9 @@ impl<W: Write + Drop, E: Write + Drop> Session<'_, W, E> {
 
     /// Writes the line of an encoding.
     fn write_entry(&mut self, entry: &Entry<'_>) -> Result<(), Fault> {
-        let alloc = self.context.alloc;
-        let line = entry_line(alloc, self.context.known, entry)?;
+        let alloc = self.alloc;
+        let context = self.context(Candidates::Nothing)?;
+        let line = entry_line(alloc, context.known, entry)?;
         self.write(printed(alloc, Escaping::Lines, line)?.as_bytes())
     }
 
@@ -249,7 +321,7 @@ impl<W: Write + Drop, E: Write + Drop> Session<'_, W, E> {
     /// # Errors
     /// As `flush`.
     pub fn lines<R: BufRead + Drop>(&mut self, name: &str, reader: R) -> Result<(), Fault> {
-        for (index, line) in reader.split(self.context.alloc, b'\n').enumerate() {
+        for (index, line) in reader.split(self.alloc, b'\n').enumerate() {
             match line {
                 Ok(line) if without_mark(&line).starts_with(b"-----BEGIN ") => {
                     return self.refuse(name, &"PEM, which is read without --lines");
@@ -266,7 +338,7 @@ impl<W: Write + Drop, E: Write + Drop> Session<'_, W, E> {
         if error.kind() == ErrorKind::OutOfMemory {
             return Err(Fault::Memory);
         }
-        let reason = format!(in self.context.alloc; "cannot read: {error}")?;
+        let reason = format!(in self.alloc; "cannot read: {error}")?;
         self.refuse(name, &reason)
     }
 
@@ -276,7 +348,13 @@ impl<W: Write + Drop, E: Write + Drop> Session<'_, W, E> {
         let number = index.saturating_add(1);
         match self.line_answer(line)? {
             Answer::Done(text) if text.is_empty() => self.write(b"ok\n"),
-            Answer::Done(text) => self.write(&text),
+            Answer::Done(text) => {
+                if self.call.work == Work::Table {
+                    let number = number.to_string(self.alloc)?;
+                    self.write_cell(number.as_str())?;
+                }
+                self.write(&text)
+            }
             Answer::Departures(reasons) => self.refuse_line(name, number, reasons.as_slice()),
             Answer::Refused(reason) => self.refuse_line(name, number, slice::from_ref(&reason)),
         }
@@ -284,9 +362,11 @@ impl<W: Write + Drop, E: Write + Drop> Session<'_, W, E> {
 
     /// Writes for which reasons the line with this number is refused: as objects of JSON if that is
     /// asked for, or else in a line.
-    fn refuse_line(&mut self, name: &str, number: usize, reasons: &[Reason]) -> Result<(), Fault> {
-        let alloc = self.context.alloc;
-        let has_json = self.context.call.has_json_errors;
+    fn refuse_line(&mut self, name: &str, number: usize, reasons: &[Reason]) -> Result<(), Fault>
+        ensures { self.new.is_refused ≡ true }
+    {
+        let alloc = self.alloc;
+        let has_json = self.call.has_json_errors;
         self.is_refused = true;
         let mut lines = Vec::new(alloc);
         for reason in reasons {
@@ -301,7 +381,7 @@ impl<W: Write + Drop, E: Write + Drop> Session<'_, W, E> {
             return writeln!(self.output, "{text}").map_err(Fault::of_write);
         }
         let text = lines.as_slice().join(alloc, "; ")?;
-        if self.context.call.work.prints_data() {
+        if self.call.work.prints_data() {
             let name = format!(in alloc; "{name}, line {number}")?;
             return self.refuse(name.as_str(), &text);
         }
@@ -310,10 +390,12 @@ impl<W: Write + Drop, E: Write + Drop> Session<'_, W, E> {
     }
 
     /// Returns what is printed for the octets that a line denotes, or for those of its JSON.
-    fn line_answer(&self, line: &[u8]) -> Result<Answer, AllocError> {
-        let alloc = self.context.alloc;
+    fn line_answer(&mut self, line: &[u8]) -> Result<Answer, Fault>
+        ensures { self.new.is_refused ≡ self.old.is_refused }
+    {
+        let alloc = self.alloc;
         let line = without_mark(line);
-        let Some(octets) = from_line(alloc, self.context.call.work, line)? else {
+        let Some(octets) = from_line(alloc, self.call.work, line)? else {
             let reason = why_not_hexadecimal(line, "neither hexadecimal nor base64");
             return Ok(Answer::Refused(Reason::of(alloc, &reason)?));
         };
@@ -322,7 +404,7 @@ impl<W: Write + Drop, E: Write + Drop> Session<'_, W, E> {
             label: None,
             is_text: true,
         };
-        answer_to(&self.context, &input)
+        self.answer(&input)
     }
 }
 

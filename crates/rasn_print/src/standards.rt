@@ -4,6 +4,47 @@
 /// How many modules there are.
 pub const COUNT: usize = 16;
 
+/// The names of the modules, each with the number of its text.
+pub const MODULES: &[(&str, usize)] = &[
+    ("AttributeCertificates", 0),
+    ("CMP", 2),
+    ("CMS", 3),
+    ("CRMF", 2),
+    ("CertificateExtensions", 4),
+    ("Certificates", 1),
+    ("Contents", 15),
+    ("Kerberos", 5),
+    ("Keys", 6),
+    ("LDAP", 7),
+    ("OCSP", 8),
+    ("OpenSSL", 9),
+    ("PKCS12", 10),
+    ("Requests", 11),
+    ("Revocation", 12),
+    ("SNMP", 13),
+    ("TimeStamps", 14),
+];
+
+/// For each text its number and those of the texts that its modules import from, directly or not.
+pub const REACHED: [&[usize]; COUNT] = [
+    &[0, 1, 4],
+    &[1],
+    &[0, 1, 2, 3, 4, 11, 12],
+    &[0, 1, 3, 4, 12],
+    &[1, 4],
+    &[5],
+    &[1, 6],
+    &[7],
+    &[1, 4, 8],
+    &[1, 9],
+    &[0, 1, 3, 4, 6, 10, 12],
+    &[1, 11],
+    &[1, 12],
+    &[13],
+    &[0, 1, 3, 4, 12, 14],
+    &[0, 1, 3, 4, 6, 8, 12, 14, 15],
+];
+
 /// Returns the name of the file of the module with this number, and its text.
 pub fn standard(number: usize) -> Option<(&'static str, &'static str)> {
     match number {

@@ -1,5 +1,5 @@
 //! The types of messages.
-ghost use Rattle.std.specs.Prelude.{◌≡◌, Some, IfOk};
+ghost use Rattle.std.specs.Prelude.{◌≡◌, Some};
 ghost use Rattle.rasn_types.specs.declared.types.codec.Codec.{Codec};
 
 use crate::messages::rules_of;
@@ -17,49 +17,54 @@ pub struct MessageType<'a> {
     pub root: TypeId,
     /// Whether an open type or unknown values are among what it is made of.
     pub holds_open: bool,
-    /// The labels of PEM that name it.
-    pub labels: &'static [&'static str],
-    /// Whether a message is tried as one of this type if nothing names its type.
-    pub is_tried: bool,
+}
+
+/// A type of a schema that a message may be of.
+#[derive(Clone, Copy)]
+pub(crate) struct KnownType<'text> {
+    name: &'text str,
+    /// The name of its module.
+    module: &'text str,
+    root: TypeId,
+    holds_open: bool,
+}
+
+impl<'text> KnownType<'text> {
+    /// Returns a type of this schema.
+    pub(crate) fn new(
+        alloc: Global,
+        schema: &Schema,
+        root: &Root<'text>,
+    ) -> Result<KnownType<'text>, AllocError> {
+        Ok(KnownType {
+            name: root.name,
+            module: root.module,
+            root: root.type_id,
+            holds_open: holds_open(alloc, schema, root.type_id)?,
+        })
+    }
 }
 
 impl<'a> MessageType<'a> {
-    /// Returns a type of a schema, which is read by these rules or else by those of its module. It
-    /// has no label, and is tried.
+    /// Returns a type of a schema, which is read by these rules or else by those of its module.
     pub(crate) fn new(
-        alloc: Global,
         schema: &'a Schema,
-        root: &Root<'a>,
+        of: &KnownType<'a>,
         rules: Option<Codec>,
-    ) -> Result<MessageType<'a>, AllocError>
-        ensures rules { (rule : Codec) → rules ≡ Some rule → IfOk result (λ m. m.rule ≡ rule) }
-        ensures root { IfOk result (λ m. (m.root ≡ root.now.type_id) × (m.schema.now ≡ schema.now)) }
+    ) -> MessageType<'a>
+        ensures rules { (rule : Codec) → rules ≡ Some rule → result.rule ≡ rule }
+        ensures of { (result.root ≡ of.now.root) × (result.holds_open ≡ of.now.holds_open) × (result.schema.now ≡ schema.now) }
     {
         let rule = match rules {
             Some(rule) => rule,
-            None => rules_of(root.module),
+            None => rules_of(of.module),
         };
-        Ok(MessageType {
-            name: root.name,
+        MessageType {
+            name: of.name,
             rule,
             schema,
-            root: root.type_id,
-            holds_open: holds_open(alloc, schema, root.type_id)?,
-            labels: &[],
-            is_tried: true,
-        })
-    }
-
-    /// Returns it with labels. It may be tried without one.
-    pub(crate) fn labelled(
-        self,
-        labels: &'static [&'static str],
-        is_tried: bool,
-    ) -> MessageType<'a> {
-        MessageType {
-            labels,
-            is_tried,
-            ..self
+            root: of.root,
+            holds_open: of.holds_open,
         }
     }
 

@@ -8,17 +8,19 @@ ghost use Rattle.rasn_print.specs.Verdicts.{IsVerdict, IsDerVerdict, IsRefusal, 
 use crate::command_line::{Call, Work};
 use crate::dump::{End, Entries, deeper_at, entry_of};
 use crate::example::example_of;
-use crate::known::Known;
+use crate::known::{Candidates, Known};
 use crate::offsets::offsets_text;
+use crate::printer::line_text;
+use crate::query::{part_at, row_text};
 use crate::reading::{check, read_alone, remainder, show};
 use crate::reason::{ADVICE, Reason, path_of};
 use crate::refusal_text::{extra_from, text_of};
-use crate::types::MessageType;
+use crate::types::{KnownType, MessageType};
 use base64::engine::general_purpose::STANDARD;
 use rasn_dynamic::{Refusal, WriteError, decode};
-use rasn_json::{encode, to_json};
+use rasn_json::{JsonError, encode, to_json};
 use rasn_lint::{Departure, LintError, OpenTypes, check as check_der, lint};
-use rasn_schema::{Type, Value, part_type, type_at};
+use rasn_schema::{Type, Value, View, part_type, type_at};
 use rasn_text::{Escaping, is_hidden, visible};
 use rasn_types::error::DecodeErrorKind;
 use rasn_types::types::{Codec, Hexadecimal, Tag};
@@ -34,10 +36,9 @@ const LINTED: usize = 256;
 pub struct Context<'a> {
     pub alloc: Global,
     pub call: &'a Call,
-    pub known: &'a Known,
-    /// The types that messages may be of: the one that the call names, or all that are known, the
-    /// first of which that reads a message is its type.
-    pub types: &'a [MessageType<'a>],
+    /// The types that messages may be of: the one that the call or a label names, or all that are
+    /// tried, the first of which that reads a message is its type.
+    pub known: &'a Known<'a>,
     /// Whether names are in bold.
     pub is_colored: bool,
 }
@@ -66,29 +67,52 @@ pub enum Answer {
 /// What is printed, unless memory runs out.
 type Answered = Result<Answer, AllocError>;
 
-/// Returns what is printed for a message: of the type that is asked for, or that its label names,
-/// or of the first of the known types that reads it.
+/// Returns what is printed for a message: of the type that decides it, or of the first of the known
+/// types that reads it.
 ///
 /// # Errors
 /// `AllocError` if memory runs out.
 pub fn answer_to(context: &Context<'_>, input: &Input<'_>) -> Result<Answer, AllocError> {
-    if let (true, Some(wanted)) = (context.call.type_name.is_some(), context.types.first()) {
-        return answer_by(context, wanted, input);
+    let known = context.known;
+    if let (Candidates::Named | Candidates::Labelled(_), Some(of)) = (
+        known.candidates,
+        known.types.first(),
+    ) {
+        return answer_by(context, &type_of(context, of), input);
     }
-    match labelled(context.types, input.label.unwrap_or("")) {
-        Some(wanted) => answer_by(context, wanted, input),
+    answer_by_trial(context, input)
+}
+
+/// Returns whether the first of the known types reads a message.
+///
+/// # Errors
+/// `AllocError` if memory runs out.
+pub(crate) fn is_of_first(context: &Context<'_>, input: &Input<'_>) -> Result<bool, AllocError> {
+    let Some(of) = context.known.types.first() else {
+        return Ok(false);
+    };
+    let wanted = as_tried(context, &type_of(context, of));
+    match check(context.alloc, &wanted, input.octets) {
+        Ok(()) => Ok(true),
+        Err(found) if found.error.is_out_of_memory() => Err(AllocError),
+        Err(_) => Ok(false),
+    }
+}
+
+/// Returns what is printed for a message that the first of the known types reads.
+///
+/// # Errors
+/// `AllocError` if memory runs out.
+pub(crate) fn answer_of_first(context: &Context<'_>, input: &Input<'_>) -> Answered {
+    match context.known.types.first() {
+        Some(of) => answer_as(context, &type_of(context, of), input),
         None => answer_by_trial(context, input),
     }
 }
 
-/// Returns the first type that has this label.
-fn labelled<'a>(types: &'a [MessageType<'a>], label: &str) -> Option<&'a MessageType<'a>> {
-    for of in types {
-        if of.labels.contains(&label) {
-            return Some(of);
-        }
-    }
-    None
+/// Returns a known type, with the rules of the call or its own.
+fn type_of<'a>(context: &Context<'a>, of: &KnownType<'a>) -> MessageType<'a> {
+    MessageType::new(&context.known.schema, of, context.call.rules)
 }
 
 /// Returns what is printed for a message of the first type that reads it, or else why it is refused
@@ -106,12 +130,10 @@ fn answer_by_trial(context: &Context<'_>, input: &Input<'_>) -> Answered {
         Err(_) => input.octets.len(),
     };
     let mut closest = None;
-    for wanted in context.types {
-        if !wanted.is_tried {
-            continue;
-        }
-        match check(alloc, &as_tried(context, wanted), input.octets) {
-            Ok(()) => return answer_as(context, wanted, input),
+    for of in &context.known.types {
+        let wanted = type_of(context, of);
+        match check(alloc, &as_tried(context, &wanted), input.octets) {
+            Ok(()) => return answer_as(context, &wanted, input),
             Err(refusal) if refusal.error.is_out_of_memory() => return Err(AllocError),
             Err(refusal) => {
                 if refusal.offset > most {
@@ -122,7 +144,7 @@ fn answer_by_trial(context: &Context<'_>, input: &Input<'_>) -> Answered {
         }
     }
     match closest {
-        Some(wanted) => answer_as(context, wanted, input),
+        Some(wanted) => answer_as(context, &wanted, input),
         None => {
             let text = format!(in alloc; "none of the known messages; {ADVICE}")?;
             refused_for(alloc, &text)
@@ -170,6 +192,7 @@ fn answer_by(context: &Context<'_>, wanted: &MessageType<'_>, input: &Input<'_>)
         Work::Example => message.example(),
         Work::Check if wanted.rule == Codec::Der => message.checked(),
         Work::Check => message.read(),
+        Work::Get | Work::Table => message.queried(),
         Work::Show | Work::Types | Work::Dump => message.shown(),
     }
 }
@@ -423,6 +446,61 @@ impl Message<'_, '_> {
             return Ok(Answer::Done(colored(alloc, text.as_str())?.into_bytes()));
         }
         Ok(Answer::Done(text.into_bytes()))
+    }
+
+    /// Returns the values of the parts that are asked for: in a table a row of them.
+    fn queried(&self) -> Answered {
+        match read_alone(self.context.alloc, self.wanted, self.octets) {
+            Ok(value) => self.values_of(&value),
+            Err(refusal) => self.refused(refusal),
+        }
+    }
+
+    /// Returns the values of parts of a value of its type: a line for each, or a row of a table, which
+    /// has nothing for a part that is absent.
+    fn values_of(&self, value: &Value<'_>) -> Answered {
+        let (alloc, call) = (self.context.alloc, self.context.call);
+        let is_table = call.work == Work::Table;
+        let view = self.wanted.schema.view(self.wanted.root, value);
+        let mut cells = Vec::new(alloc);
+        for path in &call.paths {
+            let cell = match part_at(alloc, &view, path.as_str())? {
+                Some(part) => self.cell_of(path.as_str(), &part)?,
+                None if is_table => Ok(String::new(alloc)),
+                None => {
+                    let text = format!(in alloc; "the message has no part {path}")?;
+                    return refused_for(alloc, &text);
+                }
+            };
+            match cell {
+                Ok(cell) => cells.push(cell)?,
+                Err(error) => return refused_for(alloc, &error),
+            }
+        }
+        if is_table {
+            return Ok(Answer::Done(row_text(alloc, call, cells.as_slice())?.into_bytes()));
+        }
+        let mut lines = cells.as_slice().join(alloc, "\n")?;
+        lines.push('\n')?;
+        Ok(Answer::Done(printed(alloc, Escaping::Lines, lines)?.into_bytes()))
+    }
+
+    /// Returns the value of a part in a line: as JSON if that is asked for, or if it holds others.
+    fn cell_of(
+        &self,
+        path: &str,
+        part: &View<'_, '_>,
+    ) -> Result<Result<String, JsonError>, AllocError> {
+        let (alloc, call) = (self.context.alloc, self.context.call);
+        if !call.has_json {
+            if let Some(text) = line_text(alloc, self.context.known, path, part)? {
+                return Ok(Ok(text));
+            }
+        }
+        match to_json(alloc, part.schema, part.type_id, part.value, call.layout()) {
+            Err(error) if error.is_out_of_memory() => Err(AllocError),
+            json => Ok(json),
+        }
     }
 
     /// Returns it as JSON: in one line if a line holds a message.

@@ -4,7 +4,7 @@ use crate::departures::print_departures;
 use crate::library::print_library;
 use crate::messages::answer_of;
 use crate::modules::print_modules;
-use crate::types::print_types;
+use crate::types::{print_types, print_warnings};
 use rasn_compiler::Modules;
 use std::io::{self, BufRead, BufReader, BufWriter, Write};
 
@@ -45,6 +45,10 @@ fn print_row<W: Write>(
         "types" => {
             writeln!(output, "{line}")?;
             print_types(rt, rest, output)
+        }
+        "warnings" => {
+            writeln!(output, "{line}")?;
+            print_warnings(rt, rest, output)
         }
         "typed" | "open" | "first" => {
             writeln!(output, "{line}")?;

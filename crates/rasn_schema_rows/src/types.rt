@@ -24,6 +24,20 @@ pub fn print_types<W: Write>(rt: &HostRuntime, name: &str, output: &mut W) -> io
     Ok(())
 }
 
+/// Prints what is wrong in a file of modules and spoils none of their types.
+pub fn print_warnings<W: Write>(rt: &HostRuntime, name: &str, output: &mut W) -> io::Result<()> {
+    let text = fs::read_to_string(rt, name)?;
+    let sources = [Source {
+        name,
+        text: text.as_str(),
+    }];
+    let read = Modules::parse(rt.alloc(), &sources)?;
+    for warning in &read.warnings(rt.alloc())? {
+        writeln!(output, "{warning}")?;
+    }
+    Ok(())
+}
+
 /// Prints the types of a module, a line for each. Those of the module `Shown` are printed as
 /// modules.
 fn print_module<'text, W: Write>(

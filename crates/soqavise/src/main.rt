@@ -7,8 +7,8 @@ mod words;
 use clap::Command;
 use rasn_compiler::{Modules, Source};
 use rasn_print::{
-    Call, ColorChoice, Context, Fault, Session, Work, call_of, command, known_of, message_types,
-    modules_of, print_notation, print_types, types_for,
+    Call, Catalog, ColorChoice, Fault, Session, Work, call_of, command, modules_of, print_notation,
+    print_types, warnings_of,
 };
 use rust::{run_rust, rust_command};
 use std::alloc::{AllocError, Global};
@@ -113,24 +113,19 @@ fn run_call(rt: &HostRuntime, call: &Call) -> Result<u8, Fault> {
             Err(error) => return unreadable(rt, name, &error),
         }
     }
+    if texts.is_empty() && call.work != Work::Types {
+        return run_work(rt, call, Catalog::new(alloc, None));
+    }
     let sources = sources_of(alloc, texts.as_slice())?;
     let (read, faults) = modules_of(alloc, sources.as_slice())?;
     eprint!(rt; "{faults}").map_err(Fault::of_write)?;
     if call.work == Work::Types {
+        let warnings = warnings_of(alloc, &read)?;
+        eprint!(rt; "{warnings}").map_err(Fault::of_write)?;
         let are_whole = run_types(rt, &read, call.type_name.as_ref())? && faults.is_empty();
         return Ok(if are_whole { 0 } else { REFUSED });
     }
-    let wanted = types_for(alloc, &read, call)?;
-    let (known, catalog) = known_of(alloc, &read, wanted.as_slice())?;
-    let types = message_types(alloc, &read, &known, &catalog, call)?;
-    let context = Context {
-        alloc,
-        call,
-        known: &known,
-        types: types.as_slice(),
-        is_colored: is_colored(rt, call.color),
-    };
-    run_work(rt, context)
+    run_work(rt, call, Catalog::new(alloc, Some(&read)))
 }
 
 /// Reads a file of modules. Octets that aren't UTF-8 are characters of ISO 8859-1, which a module
@@ -174,27 +169,48 @@ fn is_colored(rt: &HostRuntime, color: ColorChoice) -> bool {
 }
 
 /// Runs the work of a call on each file, or on standard input without one. Returns the exit status.
-fn run_work(rt: &HostRuntime, context: Context<'_>) -> Result<u8, Fault> {
-    let output = BufWriter::new(context.alloc, rt.stdout()).map_err(Fault::of_write)?;
+fn run_work(rt: &HostRuntime, call: &Call, catalog: Catalog<'_>) -> Result<u8, Fault> {
+    let alloc = rt.alloc();
+    let mut catalog = catalog;
+    catalog.resolve_named(alloc, call)?;
     let mut session = Session {
-        context,
-        output,
+        alloc,
+        call,
+        catalog,
+        is_colored: is_colored(rt, call.color),
+        output: BufWriter::new(alloc, rt.stdout()).map_err(Fault::of_write)?,
         refusals: rt.stderr(),
         is_refused: false,
     };
-    let files = context.call.files.as_slice();
-    let has_progress = has_progress(rt, context.call.work, files.len());
+    let status = run_files(rt, &mut session)?;
+    session.flush()?;
+    Ok(if status == 0 && session.is_refused {
+        REFUSED
+    } else {
+        status
+    })
+}
+
+/// Works on each file, or on standard input without one. Returns the exit status.
+fn run_files<W: Write + Drop, E: Write + Drop>(
+    rt: &HostRuntime,
+    session: &mut Session<'_, W, E>,
+) -> Result<u8, Fault> {
+    let call = session.call;
+    let files = call.files.as_slice();
+    let has_progress = has_progress(rt, call.work, files.len());
     let mut status = 0;
-    if context.call.work == Work::Example {
+    session.begin()?;
+    if call.work == Work::Example {
         session.example()?;
     } else if files.is_empty() {
-        status = file_source(rt, STDIN, &mut session)?;
+        status = file_source(rt, STDIN, session)?;
     }
     for (index, name) in files.iter().enumerate() {
         if has_progress {
             print_progress(rt, index, files.len())?;
         }
-        let answer = file_source(rt, name.as_str(), &mut session)?;
+        let answer = file_source(rt, name.as_str(), session)?;
         if answer != 0 {
             status = answer;
         }
@@ -202,12 +218,7 @@ fn run_work(rt: &HostRuntime, context: Context<'_>) -> Result<u8, Fault> {
     if has_progress {
         eprint!(rt; "{ERASED}").map_err(Fault::of_write)?;
     }
-    session.flush()?;
-    Ok(if status == 0 && session.is_refused {
-        REFUSED
-    } else {
-        status
-    })
+    Ok(status)
 }
 
 /// Works on the file with this name. Returns the exit status.
@@ -248,7 +259,7 @@ fn source<R: Read + Drop, W: Write + Drop, E: Write + Drop>(
     session: &mut Session<'_, W, E>,
 ) -> Result<u8, Fault> {
     let alloc = rt.alloc();
-    if session.context.call.has_lines {
+    if session.call.has_lines {
         let reader = BufReader::new(alloc, reader).map_err(Fault::of_write)?;
         session.lines(name, reader)?;
         return Ok(0);

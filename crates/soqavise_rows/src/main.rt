@@ -4,10 +4,7 @@
 
 use clap::ArgMatches;
 use rasn_compiler::{Modules, Source};
-use rasn_print::{
-    Catalog, ColorChoice, Context, Fault, Known, Session, Work, call_of, command, known_of,
-    message_types, modules_of,
-};
+use rasn_print::{Call, Catalog, ColorChoice, Fault, Session, Work, call_of, command, modules_of};
 use std::alloc::{AllocError, Global};
 use std::io::{BufRead, BufReader, BufWriter, Write};
 use std::process::ExitCode;
@@ -30,32 +27,17 @@ const POINTS: Source<'static> = Source {
         END",
 };
 
-/// The types that calls may ask for.
-#[derive(Clone, Copy)]
-struct Types<'a, 'text> {
-    read: &'a Modules<'text>,
-    known: &'a Known,
-    catalog: &'a Catalog<'text>,
-}
-
 /// Prints each row, and what its call prints.
 fn run_rows(rt: &HostRuntime) -> Result<(), Fault> {
     let alloc = rt.alloc();
     let (read, _) = modules_of(alloc, &[POINTS])?;
-    let types = read.types(alloc)?;
-    let (known, catalog) = known_of(alloc, &read, types.as_slice())?;
-    let types = Types {
-        read: &read,
-        known: &known,
-        catalog: &catalog,
-    };
     let input = BufReader::new(alloc, rt.stdin()).map_err(Fault::of_write)?;
     let mut output = BufWriter::new(alloc, rt.stdout()).map_err(Fault::of_write)?;
     for line in input.lines(alloc) {
         let line = line.map_err(Fault::of_write)?;
         writeln!(output, "{line}").map_err(Fault::of_write)?;
         if !line.is_empty() && !line.starts_with('#') {
-            let answer = answer_of(alloc, types, &line)?;
+            let answer = answer_of(alloc, &read, &line)?;
             writeln!(output, "{answer}").map_err(Fault::of_write)?;
         }
     }
@@ -63,7 +45,7 @@ fn run_rows(rt: &HostRuntime) -> Result<(), Fault> {
 }
 
 /// Returns what the call of a line prints, and `status 1` if that is its exit status.
-fn answer_of(alloc: Global, types: Types<'_, '_>, line: &str) -> Result<String, Fault> {
+fn answer_of(alloc: Global, read: &Modules<'_>, line: &str) -> Result<String, Fault> {
     let (call, input) = match line.split_once('"') {
         Some((call, text)) => (call.trim_ascii_end(), unquoted(alloc, text)?),
         None => match line.rsplit_once(' ') {
@@ -76,18 +58,18 @@ fn answer_of(alloc: Global, types: Types<'_, '_>, line: &str) -> Result<String, 
     for word in call.split(' ') {
         words.push(word)?;
     }
-    answer_to_words(alloc, types, words.as_slice(), input.as_bytes())
+    answer_to_words(alloc, read, words.as_slice(), input.as_bytes())
 }
 
 /// Returns what the call of these words prints for an input.
 fn answer_to_words(
     alloc: Global,
-    types: Types<'_, '_>,
+    read: &Modules<'_>,
     words: &[&str],
     input: &[u8],
 ) -> Result<String, Fault> {
     match command(alloc)?.try_get_matches_from(words) {
-        Ok(matches) => answer_to_matches(alloc, types, matches, input),
+        Ok(matches) => answer_to_matches(alloc, read, matches, input),
         Err(error) => Ok(format!(in alloc; "{error}")?),
     }
 }
@@ -95,22 +77,16 @@ fn answer_to_words(
 /// Returns what the call that a command line asks for prints for an input.
 fn answer_to_matches(
     alloc: Global,
-    types: Types<'_, '_>,
+    read: &Modules<'_>,
     matches: ArgMatches<'_>,
     input: &[u8],
 ) -> Result<String, Fault> {
     let Some(call) = call_of(alloc, &matches)? else {
         return Ok(String::from_str(alloc, "is no call")?);
     };
-    let wanted = message_types(alloc, types.read, types.known, types.catalog, &call)?;
-    let context = Context {
-        alloc,
-        call: &call,
-        known: types.known,
-        types: wanted.as_slice(),
-        is_colored: call.color == ColorChoice::Always,
-    };
-    run(context, input)
+    let mut catalog = Catalog::new(alloc, Some(read));
+    catalog.resolve_named(alloc, &call)?;
+    run(alloc, &call, catalog, input)
 }
 
 /// Returns a text in which `\n` is a line feed, `\e` an escape character and `\m` a byte order mark,
@@ -127,17 +103,20 @@ fn unquoted(alloc: Global, text: &str) -> Result<String, AllocError> {
 }
 
 /// Returns what a call prints for an input.
-fn run(context: Context<'_>, input: &[u8]) -> Result<String, Fault> {
-    let alloc = context.alloc;
+fn run(alloc: Global, call: &Call, catalog: Catalog<'_>, input: &[u8]) -> Result<String, Fault> {
     let mut session = Session {
-        context,
+        alloc,
+        call,
+        catalog,
+        is_colored: call.color == ColorChoice::Always,
         output: Vec::new(alloc),
         refusals: Vec::new(alloc),
         is_refused: false,
     };
-    if context.call.work == Work::Example {
+    session.begin()?;
+    if call.work == Work::Example {
         session.example()?;
-    } else if context.call.has_lines {
+    } else if call.has_lines {
         session.lines(
             "input",
             BufReader::new(alloc, input).map_err(Fault::of_write)?,

@@ -46,6 +46,9 @@ impl<'modules, 'text> Resolver<'modules, 'text> {
         arcs: Vec<u32>,
         spelled: &Spelled<'text>,
     ) -> Result<Value<'static>, Halt<'text>> {
+        if !may_begin(arcs.as_slice()) {
+            return Err(self.misfit(spelled));
+        }
         match ObjectIdentifier::new(arcs) {
             Some(identifier) => Ok(Value::Arcs(identifier)),
             None => Err(self.misfit(spelled)),
@@ -142,6 +145,15 @@ impl<'tokens, 'text> Parser<'tokens, 'text> {
         let number = self.value()?;
         self.expect(")")?;
         Ok(number)
+    }
+}
+
+/// Returns whether the first two numbers may be together: after 0 and 1 is one below 40 (X.660 A,
+/// X.690 8.19.4).
+fn may_begin(arcs: &[u32]) -> bool {
+    match arcs {
+        [0 | 1, second, ..] => *second < 40,
+        _ => true,
     }
 }
 

@@ -205,8 +205,8 @@ fn known_name<'text>(module: &Module<'text>, name: &str) -> Option<&'text str> {
 /// Returns the symbol of this name, as it is in the text.
 fn symbol_named<'text>(import: &Import<'text>, name: &str) -> Option<&'text str> {
     for symbol in &import.symbols {
-        if *symbol == name {
-            return Some(*symbol);
+        if symbol.name == name {
+            return Some(symbol.name);
         }
     }
     None

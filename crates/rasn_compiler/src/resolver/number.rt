@@ -77,6 +77,9 @@ impl<'modules, 'text> Resolver<'modules, 'text> {
         position: Position,
     ) -> Result<(Place, Value<'text>), Halt<'text>> {
         let (home, base) = self.base_of(place, index, position)?;
+        if !matches!(base, Base::Integer(_) | Base::Enumerated(_)) {
+            return Err(self.expected(place, position, "a number"));
+        }
         self.step(names_of(base).len(), place, position)?;
         match number_named(names_of(base), value) {
             Some(number) => Ok((home, number)),

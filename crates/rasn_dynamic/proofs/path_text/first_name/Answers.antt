@@ -1,9 +1,9 @@
 use Rattle.std.proofs.Common.{arith, ap, length, sym, subst}
 use Rattle.std.specs.List.{AllByRecursion}
 use Rattle.std.proofs.lemmas.List.{take-append-drop}
-use Rattle.rasn_c.specs.Paths.{EndsName, IsNameOctet}
-use Rattle.rasn_c.proofs.PathTexts.{none_there, cut_there}
-use Rattle.rasn_c.proofs.paths.first_name.Goals as goal
+use Rattle.rasn_dynamic.specs.PathText.{EndsName, IsNameOctet}
+use Rattle.rasn_dynamic.proofs.PathTexts.{none_there, cut_there}
+use Rattle.rasn_dynamic.proofs.path_text.first_name.Goals as goal
 
 pub returns-then-end-eq0 : goal.returns-then-end-eq0
 returns-then-end-eq0 c = λ name rest. none_there c.args.text.now name rest (rw c.if-end-eq0.true at c.name_length-end.ensures.end)

@@ -1,17 +1,24 @@
 //! Paths to parts as text: `extensions[1].extnValue`.
 ghost use Rattle.std.specs.Prelude.{◌≡◌, ◌≤◌, ℕ, List, Bool, IfOk, MatchOption, length, take, drop};
 ghost use Rattle.std.specs.List.{AllByRecursion};
-ghost use Rattle.rasn_c.specs.Paths.{AreStepsOf, IsFirstStep, IsFirstName, IsFirstIndex, IsNameOctet, EndsName};
+ghost use Rattle.rasn_dynamic.specs.PathText.{AreStepsOf, IsFirstStep, IsFirstName, IsFirstIndex, IsNameOctet, EndsName};
 ghost use Rattle.rasn_dynamic.specs.declared.steps.Step.{Step};
 
-use rasn_dynamic::Step;
+use crate::steps::Step;
 use std::alloc::{AllocError, Global};
 
-/// Returns the steps of which this is the text. Returns `None` if it is the text of none.
+/// Returns the steps of which this is the text: names with points between them, and indices in
+/// brackets. Returns `None` if it is the text of none.
 ///
 /// # Errors
-/// If memory runs out.
-pub(crate) fn steps_of<'text>(
+/// `AllocError` if memory runs out.
+///
+/// # Examples
+/// ```
+/// let steps = rasn_dynamic::steps_of(alloc, "extensions[1].extnValue")?;
+/// // `steps` is Some([Name("extensions"), Index(1), Name("extnValue")])
+/// ```
+pub fn steps_of<'text>(
     alloc: Global,
     text: &'text str,
 ) -> Result<Option<Vec<Step<'text>>>, AllocError>

@@ -1,6 +1,6 @@
 use Rattle.std.proofs.Common.{arith}
-use Rattle.rasn_c.proofs.PathTexts.{no_first_name, no_point, is_missing}
-use Rattle.rasn_c.proofs.paths.first_step.Goals as goal
+use Rattle.rasn_dynamic.proofs.PathTexts.{no_first_name, no_point, is_missing}
+use Rattle.rasn_dynamic.proofs.path_text.first_step.Goals as goal
 
 pub returns-in_err-name : goal.returns-in_err-name
 returns-in_err-name c = rw c.from_residual-in_err-name.ensures (no_first_name c.args.text.now (is_missing 91 c.args.text.now c.strip_prefix.result c.strip_prefix.ensures.cases (omega arith) c.in_default.is) (rw c.in_err-name.was at c.first_name.ensures) c.args.is_first c.if-is_first.true)

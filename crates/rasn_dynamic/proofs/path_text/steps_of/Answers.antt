@@ -1,8 +1,8 @@
 use Rattle.std.proofs.Common.{◌≡◌, sym, ◌∙◌, subst}
 use Rattle.std.specs.List.{AllByRecursion}
-use Rattle.rasn_c.specs.Paths.{IsPlain}
-use Rattle.rasn_c.proofs.PathTexts.{is_nil, nil_test, no_steps, goes_on, text_goes_on, all_push, is_plain, after_step, not_empty}
-use Rattle.rasn_c.proofs.paths.steps_of.Goals as goal
+use Rattle.rasn_dynamic.specs.PathText.{IsPlain}
+use Rattle.rasn_dynamic.proofs.PathTexts.{is_nil, nil_test, no_steps, goes_on, text_goes_on, all_push, is_plain, after_step, not_empty}
+use Rattle.rasn_dynamic.proofs.path_text.steps_of.Goals as goal
 
 pub returns-in_default : goal.returns-in_default
 returns-in_default c =

@@ -1,9 +1,9 @@
 use Rattle.std.proofs.Common.{◌≡◌, ◌++◌, length, true}
 use Rattle.std.specs.List.{AllByRecursion}
 use Rattle.std.specs.Str.{IsUtf8}
-use Rattle.rasn_c.specs.Paths.{IsPlain, steps_text}
-use Rattle.rasn_c.proofs.PathTexts.{GoesOn}
-use Rattle.rasn_c.proofs.paths.steps_of.Given as goal
+use Rattle.rasn_dynamic.specs.PathText.{IsPlain, steps_text}
+use Rattle.rasn_dynamic.proofs.PathTexts.{GoesOn}
+use Rattle.rasn_dynamic.proofs.path_text.steps_of.Given as goal
 
 abbrev pub invariant-loop-rest : goal.invariant-loop-rest
 invariant-loop-rest l = record {

@@ -1,9 +1,9 @@
 use Rattle.std.proofs.Common.{arith, sym, ◌∙◌, ap, length, true≢false}
 use Rattle.std.proofs.lemmas.Fmt.{parse-decimal}
 use Rattle.std.proofs.lemmas.Str.Pattern.{starts_char}
-use Rattle.rasn_c.proofs.PathTexts.{no_bracket, are_digits, parts_are, no_plus, no_zero, one_long, is_index}
-use Rattle.rasn_c.proofs.paths.first_index.Goals as goal
-use Rattle.rasn_c.proofs.paths.first_index.Goals.{else-starts_with-2-via-then-starts_with-2+else-digits-gt1, else-starts_with-2-via-else-starts_with-2}
+use Rattle.rasn_dynamic.proofs.PathTexts.{no_bracket, are_digits, parts_are, no_plus, no_zero, one_long, is_index}
+use Rattle.rasn_dynamic.proofs.path_text.first_index.Goals as goal
+use Rattle.rasn_dynamic.proofs.path_text.first_index.Goals.{else-starts_with-2-via-then-starts_with-2+else-digits-gt1, else-starts_with-2-via-else-starts_with-2}
 
 pub returns-in_err-digits : goal.returns-in_err-digits
 returns-in_err-digits c = rw c.from_residual.ensures (no_bracket c.args.text.now c.split_once.result c.split_once.ensures.cases c.in_err-digits.was)

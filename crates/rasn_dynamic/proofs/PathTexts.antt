@@ -17,7 +17,7 @@ use Rattle.std.proofs.lemmas.Str.Pattern.{IsSplitOnceResult, split_after, split_
 use Rattle.rasn_schema.specs.declared.type_id.TypeId.{TypeId}
 use Rattle.rasn_schema.specs.declared.types.«Type».{«Type»}
 use Rattle.rasn_dynamic.specs.Steps.{IsNamedStep, IsIndexedStep, IsStepOf, IsNoWay}
-use Rattle.rasn_c.specs.Paths.{IsNameOctet, IsPlain, point, step_text, steps_text, AreStepsOf, EndsName, IsFirstName, IsFirstIndex, IsFirstStep}
+use Rattle.rasn_dynamic.specs.PathText.{IsNameOctet, IsPlain, point, step_text, steps_text, AreStepsOf, EndsName, IsFirstName, IsFirstIndex, IsFirstStep}
 use Rattle.rasn_dynamic.specs.declared.steps.Step.{Step}
 use Rattle.rasn_dynamic.specs.declared.steps.Step.TheVariants.{Name, Index}
 

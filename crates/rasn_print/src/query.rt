@@ -1,0 +1,102 @@
+//! Values of parts that are asked for by their paths.
+
+use crate::command_line::Call;
+use crate::printer::inside;
+use rasn_dynamic::{Step, steps_of};
+use rasn_schema::{Value, View};
+use rasn_text::{Escaping, visible};
+use std::alloc::{AllocError, Global};
+
+/// Returns the part of a value to which a path leads: from the value, or else from the outermost of
+/// its parts from which the path leads anywhere, the first of these in the order of the message.
+/// Returns `None` if there is none.
+///
+/// # Errors
+/// `AllocError` if memory runs out.
+pub(crate) fn part_at<'view, 'input>(
+    alloc: Global,
+    view: &View<'view, 'input>,
+    path: &str,
+) -> Result<Option<View<'view, 'input>>, AllocError> {
+    let Some(steps) = steps_of(alloc, path)? else {
+        return Ok(None);
+    };
+    let mut views = Vec::new(alloc);
+    views.push(view.schema.view(view.type_id, view.value))?;
+    for next in 0..usize::MAX {
+        let Some(view) = views.get(next) else {
+            break;
+        };
+        if let Some(part) = part_after(view, steps.as_slice()) {
+            return Ok(Some(part));
+        }
+        let view = view.schema.view(view.type_id, view.value);
+        push_parts(&mut views, &view)?;
+    }
+    Ok(None)
+}
+
+/// Returns the part of a value to which steps lead, if it is present.
+fn part_after<'view, 'input>(
+    view: &View<'view, 'input>,
+    steps: &[Step<'_>],
+) -> Option<View<'view, 'input>> {
+    let mut part = view.schema.view(view.type_id, view.value);
+    for step in steps {
+        part = match step {
+            Step::Name(name) => part.get(name)?,
+            Step::Index(index) => part.at(*index)?,
+        };
+    }
+    if matches!(part.value, Value::Absent) {
+        None
+    } else {
+        Some(part)
+    }
+}
+
+/// Appends the parts of a value, in their order.
+fn push_parts<'view, 'input>(
+    views: &mut Vec<View<'view, 'input>>,
+    view: &View<'view, 'input>,
+) -> Result<(), AllocError> {
+    if let Value::Items(values) | Value::Elements(values) = view.value {
+        for index in 0..values.len() {
+            if let Some(part) = view.at(index) {
+                views.push(part)?;
+            }
+        }
+    } else if let Some((_, inner)) = inside(view) {
+        views.push(inner)?;
+    }
+    Ok(())
+}
+
+/// Returns these cells of a row of a table, each after a tab or, if the call asks for it, after a
+/// comma (RFC 4180), and the end of the line.
+///
+/// # Errors
+/// `AllocError` if memory runs out.
+pub(crate) fn row_text(alloc: Global, call: &Call, cells: &[String]) -> Result<String, AllocError> {
+    let mut row = String::new(alloc);
+    for cell in cells {
+        row.push(if call.is_csv { ',' } else { '\t' })?;
+        row.push_str(cell_text(alloc, call, cell.as_str())?.as_str())?;
+    }
+    row.push('\n')?;
+    Ok(row)
+}
+
+/// Returns a text as it is in a table: without control characters, and between commas in quotation
+/// marks if it has one of these or a comma (RFC 4180 2).
+///
+/// # Errors
+/// `AllocError` if memory runs out.
+pub(crate) fn cell_text(alloc: Global, call: &Call, text: &str) -> Result<String, AllocError> {
+    let shown = visible(alloc, Escaping::Line, text)?;
+    if !call.is_csv || !shown.as_str().contains([',', '"'].as_slice()) {
+        return Ok(shown);
+    }
+    let doubled = shown.as_str().replace(alloc, "\"", "\"\"")?;
+    format!(in alloc; "\"{doubled}\"")
+}
