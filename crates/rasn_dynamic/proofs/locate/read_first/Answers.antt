@@ -56,10 +56,10 @@ pub returns-clause-short : goal.returns-clause-short
 returns-clause-short g c =
     let e : c.new-decoder.result ≡ start c.args.rule c.args.input.now = c.new-decoder.ensures ∙ ap (λ z. start z c.args.input.now) c.of.ensures in
     let n = ap (λ (z : State). length z.rest) e in
-    omega (arith, n, c.octets_left.ensures, c.octets_left.type_inv)
+    c.len.type_inv
 
 pub returns-in-Ok-clause-short : goal.returns-in-Ok-clause-short
 returns-in-Ok-clause-short g c =
     let e : c.new-decoder.result ≡ start c.args.rule c.args.input.now = c.new-decoder.ensures ∙ ap (λ z. start z c.args.input.now) c.of.ensures in
     let n = ap (λ (z : State). length z.rest) e in
-    omega (arith, n, c.octets_left.ensures, c.octets_left.type_inv)
+    c.len.type_inv
