@@ -64,17 +64,17 @@ pub counted : (read : Call Tree) (n : ℕ) → EachCall (DecodesCounted read n) 
 counted read n o (Ok t) m h = h.1
 counted read n o (Err e) m h = h
 
-pub held : (f : ℕ → Shape) (ty : «Type») (n : ℕ) → EachCall (DecodesHeld f ty n) (DecodesContents f ty)
-held f (Leaf kind tag c names) n o r m h = h
-held f (Enumerated tag ns) n o r m h = h
-held f (Any tag) n o r m h = h
-held f Unknown n o r m h = h
-held f (Tagged tag id) n o r m h = h
-held f (Choice name ks) n o r m h = h
-held f (Sequence tag ps) n o r m h = h
-held f (Set name tag ps) n o r m h = h
-held f (SequenceOf tag id c) n o r m h = counted (DecodesContents f (SequenceOf tag id c)) n o r m h
-held f (SetOf tag id c) n o r m h = counted (DecodesContents f (SetOf tag id c)) n o r m h
+pub inside_held : (f : ℕ → Shape) (ty : «Type») (n : ℕ) → EachCall (DecodesHeld f ty n) (DecodesContents f ty)
+inside_held f (Leaf kind tag c names) n o r m h = h
+inside_held f (Enumerated tag ns) n o r m h = h
+inside_held f (Any tag) n o r m h = h
+inside_held f Unknown n o r m h = h
+inside_held f (Tagged tag id) n o r m h = h
+inside_held f (Choice name ks) n o r m h = h
+inside_held f (Sequence tag ps) n o r m h = h
+inside_held f (Set name tag ps) n o r m h = h
+inside_held f (SequenceOf tag id c) n o r m h = counted (DecodesContents f (SequenceOf tag id c)) n o r m h
+inside_held f (SetOf tag id c) n o r m h = counted (DecodesContents f (SetOf tag id c)) n o r m h
 
 -- A type with a header holds others.
 pub holds_others : (ty : «Type») (d : ConstructedHeader) → IsHeaderOf ty (Some d) → HoldsOthers ty

@@ -12,7 +12,7 @@ use crate::made::{Made, Nothing, Values};
 use crate::reader::decode_at;
 use crate::refusal::Refusal;
 use crate::span::{Spans, no_list};
-use crate::trace::Fault;
+use crate::trace::{Fault, octets_left};
 use crate::types::Types;
 use crate::walk::new_walk;
 use rasn_de::ber::de::{Decoder, DecoderOptions};
@@ -93,7 +93,7 @@ pub(crate) fn read_first<'input, M: Made>(
     ensures short { length input.now < 2 ^ 64 }
 {
     let mut decoder = Decoder::new(alloc, input, DecoderOptions::of(rule));
-    let len = input.len();
+    let len = octets_left(&decoder);
     let mut walk = new_walk(rule, std::mem::replace(spans, no_list()));
     let mut value = Value::Absent;
     let types = Types {

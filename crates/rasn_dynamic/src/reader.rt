@@ -44,7 +44,7 @@ use crate::set::{
     Members, all_absent, component_for, gather, last_type, named_components, no_components, put,
 };
 use crate::span::{finish, go_inside, go_outside, note};
-use crate::trace::{mark, mark_part, step};
+use crate::trace::{mark, mark_part, octets_left, step};
 use crate::types::Types;
 use crate::walk::{Refused, Walk, count_after, kept, peek, peek_in_order};
 use rasn_de::ber::de::{ConstructedHeader, Decoder};
@@ -278,7 +278,7 @@ pub fn decode_at<'input, M: Made>(
     ensures told { TellsOf (IsFault types.now.list.now types.now.levels id.0 decoder.old) (outcome result out.new walk.new.error) walk.new.fault }
     ensures listed { IfOk (outcome result out.new walk.new.error) (λ v. Lists (λ b es. PartsInside types.now.list.now types.now.levels id.0 b decoder.old es) walk.old.spans walk.new.spans) }
 {
-    let left = decoder.remaining().len();
+    let left = octets_left(decoder);
     let Some(ty) = types.get(id) else {
         refuse_no_value(&mut walk.error, decoder);
         mark(decoder.alloc(), &mut walk.fault, id, left);
@@ -294,6 +294,64 @@ pub fn decode_at<'input, M: Made>(
             mark(decoder.alloc(), &mut walk.fault, id, left);
             Err(refused)
         }
+    }
+}
+
+/// Reads such a value as the part with this index of the value that holds it, and notes it.
+#[cycle(decode)]
+#[inline(always)]
+pub fn decode_part<'input, M: Made>(
+    decoder: &mut Decoder<'input>,
+    walk: &mut Walk<'input>,
+    types: &Types<'_>,
+    id: TypeId,
+    index: usize,
+    out: &mut Value<'input>,
+) -> Result<(), Refused>
+    requires lawful { IsReadable (shape_of_type types.now.list.now types.now.levels id.0) }
+    requires clear { walk.old.fault ≡ None }
+    ensures reads { Making M.KEEP tree_of (DecodesTree (shape_of_type types.now.list.now types.now.levels id.0)) decoder.old (outcome result out.new walk.new.error) decoder.new }
+    ensures fits { M.KEEP ≡ true → IfOk (outcome result out.new walk.new.error) (λ v. Fits types.now.list.now types.now.levels id.0 v) }
+    ensures rules { IfErr (outcome result out.new walk.new.error) (λ e. e.codec ≡ decoder.old.rule) }
+    ensures told { TellsOf (IsFaultIn types.now.list.now types.now.levels (IsOnly index id.0 decoder.old) decoder.old decoder.old) (outcome result out.new walk.new.error) walk.new.fault }
+    ensures listed { IfOk (outcome result out.new walk.new.error) (λ v. Lists (λ b es. PartListed (shape_of_type types.now.list.now types.now.levels) types.now.levels (Inside types.now.list.now types.now.levels) id.0 index b decoder.old decoder.new es) walk.old.spans walk.new.spans) }
+{
+    let start = decoder.remaining();
+    let place = note(&mut walk.spans, id, index, types.levels, start);
+    match decode_at::<M>(decoder, walk, types, id, out) {
+        Ok(()) => {
+            finish(&mut walk.spans, place, decoder.remaining());
+            Ok(())
+        }
+        Err(refused) => {
+            step(&mut walk.fault, index);
+            Err(refused)
+        }
+    }
+}
+
+/// Reads such a part and makes its value, even if the reader makes none.
+#[cycle(decode)]
+#[inline(never)]
+fn decode_compared<'input, M: Made>(
+    decoder: &mut Decoder<'input>,
+    walk: &mut Walk<'input>,
+    types: &Types<'_>,
+    id: TypeId,
+    index: usize,
+    out: &mut Value<'input>,
+) -> Result<(), Refused>
+    requires lawful { IsReadable (shape_of_type types.now.list.now types.now.levels id.0) }
+    requires clear { walk.old.fault ≡ None }
+    ensures reads { Making true tree_of (DecodesTree (shape_of_type types.now.list.now types.now.levels id.0)) decoder.old (outcome result out.new walk.new.error) decoder.new }
+    ensures fits { IfOk (outcome result out.new walk.new.error) (λ v. Fits types.now.list.now types.now.levels id.0 v) }
+    ensures rules { IfErr (outcome result out.new walk.new.error) (λ e. e.codec ≡ decoder.old.rule) }
+    ensures told { TellsOf (IsFaultIn types.now.list.now types.now.levels (IsOnly index id.0 decoder.old) decoder.old decoder.old) (outcome result out.new walk.new.error) walk.new.fault }
+    ensures listed { IfOk (outcome result out.new walk.new.error) (λ v. Lists (λ b es. PartListed (shape_of_type types.now.list.now types.now.levels) types.now.levels (Inside types.now.list.now types.now.levels) id.0 index b decoder.old decoder.new es) walk.old.spans walk.new.spans) }
+{
+    match M::decode_value(decoder, walk, types, id, index, out) {
+        Some(read) => read,
+        None => decode_part::<M>(decoder, walk, types, id, index, out),
     }
 }
 
@@ -388,6 +446,7 @@ fn decode_inside<'input, M: Made>(
 ) -> Result<usize, Refused>
     requires lawful { IsReadable (type_by (shape_of_type types.now.list.now types.now.levels) ty.now) }
     requires holds { HoldsOthers ty.now }
+    requires short { length decoder.old.rest < 2 ^ 64 }
     requires clear { walk.old.fault ≡ None }
     ensures { ReadsContents types.now.list.now types.now.levels M.KEEP ty.now (DecodesHeld (shape_of_type types.now.list.now types.now.levels) ty.now (count_of result)) decoder.old walk.old.spans (outcome result out.new walk.new.error) decoder.new walk.new.fault walk.new.spans }
 {
@@ -415,69 +474,6 @@ fn decode_inside<'input, M: Made>(
             put_elements_in_order::<M>(decoder, walk, types, *element, out)
         }
         _ => unreachable!(),
-    }
-}
-
-/// Reads such a value as the part with this index of the value that holds it, and notes it.
-#[cycle(decode)]
-#[inline(always)]
-pub fn decode_part<'input, M: Made>(
-    decoder: &mut Decoder<'input>,
-    walk: &mut Walk<'input>,
-    types: &Types<'_>,
-    id: TypeId,
-    index: usize,
-    out: &mut Value<'input>,
-) -> Result<(), Refused>
-    requires lawful { IsReadable (shape_of_type types.now.list.now types.now.levels id.0) }
-    requires clear { walk.old.fault ≡ None }
-    ensures reads { Making M.KEEP tree_of (DecodesTree (shape_of_type types.now.list.now types.now.levels id.0)) decoder.old (outcome result out.new walk.new.error) decoder.new }
-    ensures fits { M.KEEP ≡ true → IfOk (outcome result out.new walk.new.error) (λ v. Fits types.now.list.now types.now.levels id.0 v) }
-    ensures rules { IfErr (outcome result out.new walk.new.error) (λ e. e.codec ≡ decoder.old.rule) }
-    ensures told { TellsOf (IsFaultIn types.now.list.now types.now.levels (IsOnly index id.0 decoder.old) decoder.old decoder.old) (outcome result out.new walk.new.error) walk.new.fault }
-    ensures listed { IfOk (outcome result out.new walk.new.error) (λ v. Lists (λ b es. PartListed (shape_of_type types.now.list.now types.now.levels) types.now.levels (Inside types.now.list.now types.now.levels) id.0 index b decoder.old decoder.new es) walk.old.spans walk.new.spans) }
-{
-    let place = note(
-        &mut walk.spans,
-        id,
-        index,
-        types.levels,
-        decoder.remaining(),
-    );
-    match decode_at::<M>(decoder, walk, types, id, out) {
-        Ok(()) => {
-            finish(&mut walk.spans, place, decoder.remaining());
-            Ok(())
-        }
-        Err(refused) => {
-            step(&mut walk.fault, index);
-            Err(refused)
-        }
-    }
-}
-
-/// Reads such a part and makes its value, even if the reader makes none.
-#[cycle(decode)]
-#[inline(never)]
-fn decode_compared<'input, M: Made>(
-    decoder: &mut Decoder<'input>,
-    walk: &mut Walk<'input>,
-    types: &Types<'_>,
-    id: TypeId,
-    index: usize,
-    out: &mut Value<'input>,
-) -> Result<(), Refused>
-    requires lawful { IsReadable (shape_of_type types.now.list.now types.now.levels id.0) }
-    requires clear { walk.old.fault ≡ None }
-    ensures reads { Making true tree_of (DecodesTree (shape_of_type types.now.list.now types.now.levels id.0)) decoder.old (outcome result out.new walk.new.error) decoder.new }
-    ensures fits { IfOk (outcome result out.new walk.new.error) (λ v. Fits types.now.list.now types.now.levels id.0 v) }
-    ensures rules { IfErr (outcome result out.new walk.new.error) (λ e. e.codec ≡ decoder.old.rule) }
-    ensures told { TellsOf (IsFaultIn types.now.list.now types.now.levels (IsOnly index id.0 decoder.old) decoder.old decoder.old) (outcome result out.new walk.new.error) walk.new.fault }
-    ensures listed { IfOk (outcome result out.new walk.new.error) (λ v. Lists (λ b es. PartListed (shape_of_type types.now.list.now types.now.levels) types.now.levels (Inside types.now.list.now types.now.levels) id.0 index b decoder.old decoder.new es) walk.old.spans walk.new.spans) }
-{
-    match M::decode_value(decoder, walk, types, id, index, out) {
-        Some(read) => read,
-        None => decode_part::<M>(decoder, walk, types, id, index, out),
     }
 }
 
@@ -669,6 +665,7 @@ fn put_elements<'input, M: Made>(
     out: &mut Value<'input>,
 ) -> Result<usize, Refused>
     requires lawful { IsReadable (shape_of_type types.now.list.now types.now.levels element.0) }
+    requires short { length decoder.old.rest < 2 ^ 64 }
     requires clear { walk.old.fault ≡ None }
     ensures { ReadsContents types.now.list.now types.now.levels M.KEEP (SequenceOf eoc element unconstrained) (DecodesCounted (DecodesContents (shape_of_type types.now.list.now types.now.levels) (SequenceOf eoc element unconstrained)) (count_of result)) decoder.old walk.old.spans (outcome result out.new walk.new.error) decoder.new walk.new.fault walk.new.spans }
 {
@@ -689,6 +686,7 @@ fn put_elements_in_order<'input, M: Made>(
     out: &mut Value<'input>,
 ) -> Result<usize, Refused>
     requires lawful { IsReadable (shape_of_type types.now.list.now types.now.levels element.0) }
+    requires short { length decoder.old.rest < 2 ^ 64 }
     requires clear { walk.old.fault ≡ None }
     ensures { ReadsContents types.now.list.now types.now.levels M.KEEP (SetOf eoc element unconstrained) (DecodesCounted (DecodesContents (shape_of_type types.now.list.now types.now.levels) (SetOf eoc element unconstrained)) (count_of result)) decoder.old walk.old.spans (outcome result out.new walk.new.error) decoder.new walk.new.fault walk.new.spans }
 {
@@ -711,6 +709,7 @@ fn decode_elements<'input, M: Made>(
 ) -> Result<usize, Refused>
     requires lawful { IsReadable (shape_of_type types.now.list.now types.now.levels element.0) }
     requires empty { values.old.items ≡ [] }
+    requires short { length decoder.old.rest < 2 ^ 64 }
     requires clear { walk.old.fault ≡ None }
     ensures reads { Counting M.KEEP trees_of IsLength (DecodesElements (DecodesTree (shape_of_type types.now.list.now types.now.levels element.0)) these) decoder.old (outcome result values.new walk.new.error) decoder.new (count_of result) }
     ensures fits { M.KEEP ≡ true → IfOk (outcome result values.new walk.new.error) (λ v. EachFits (Fits types.now.list.now types.now.levels element.0) v.items) }
@@ -743,6 +742,7 @@ fn decode_elements_in_order<'input, M: Made>(
 ) -> Result<usize, Refused>
     requires lawful { IsReadable (shape_of_type types.now.list.now types.now.levels element.0) }
     requires empty { values.old.items ≡ [] }
+    requires short { length decoder.old.rest < 2 ^ 64 }
     requires clear { walk.old.fault ≡ None }
     ensures reads { Counting M.KEEP trees_of IsLength (DecodesElementsInOrder (DecodesTree (shape_of_type types.now.list.now types.now.levels element.0)) these) decoder.old (outcome result values.new walk.new.error) decoder.new (count_of result) }
     ensures fits { M.KEEP ≡ true → IfOk (outcome result values.new walk.new.error) (λ v. EachFits (Fits types.now.list.now types.now.levels element.0) v.items) }

@@ -28,10 +28,8 @@ use Rattle.rasn_schema.specs.Shapes.{numbers_of, shape_of_type, type_by, alterna
 use Rattle.rasn_schema.proofs.Presences.{always_by}
 use Rattle.rasn_schema.proofs.TypeShapes.{shape_below}
 use Rattle.rasn_schema.proofs.Lists.{split, nothing_left, read_at}
-use Rattle.rasn_schema.specs.declared.types.«Type».TheVariants.{Tagged, Sequence, Set, SequenceOf, SetOf}
 use Rattle.rasn_dynamic.specs.Inside.{DecodesTree, DecodesComponent}
 use Rattle.rasn_dynamic.specs.Making.{Making, outcome}
-use Rattle.rasn_dynamic.specs.Typed.{DecodesContents}
 use Rattle.rasn_dynamic.specs.Calls.{held, Gathers, names_of, nones, DecodesPresent}
 use Rattle.rasn_dynamic.proofs.Making.{made_as, made_fails_as, choice_exact, if_kept, one_made, choice_made, choice_fits}
 use Rattle.rasn_schema.specs.Fitting.{Fits, IsNumber, AreOctets, EachFits}
@@ -51,7 +49,7 @@ use Rattle.rasn_dynamic.proofs.Members.{passed_unknown}
 use Rattle.rasn_dynamic.proofs.Named.{named_lawful, last_unknown}
 use Rattle.rasn_dynamic.specs.Sets.{AreLawfulMembers}
 use Rattle.rasn_de.proofs.Constructed.Opening.{kept}
-use Rattle.rasn_dynamic.proofs.Parts.{shorter}
+use Rattle.rasn_dynamic.proofs.Parts.{shorter, seen_inside, seen_short}
 use Rattle.rasn_dynamic.proofs.reader.+decode.Goals.{decode_elements_in_order-else-is_strict-via-then-is_strict+else-is_less, decode_elements_in_order-else-is_strict-via-else-is_strict}
 use Rattle.rasn_dynamic.specs.Listed.{Lists, Inside, PartListed, ComponentAt, MemberListed}
 use Rattle.rasn_dynamic.specs.declared.span.Spans.{Spans}
@@ -64,7 +62,7 @@ use Rattle.rasn_dynamic.specs.Faults.{IsFaultOf, IsFaultIn, IsOnly, IsAlternativ
 use Rattle.rasn_dynamic.proofs.Faults.{any_err, if_err_map, unnamed, one_taken, turns_long, marked, stepped, further, weaker, entered, told_map, tells, tells_err, alternative_there, element_there, forgotten, one_part_more, part_there, member_there, member_behind, unknown_there, turns_keep, named, not_named, found_itself, present_stops, itself_choice, element_stops, set_element_stops, default_stops, unmade_stops, only_memory, taken_none, fails_missing}
 -- ---- the type with a number
 
-use Rattle.rasn_dynamic.specs.Readers.{DecodesCounted, DecodesHeld, count_of}
+use Rattle.rasn_dynamic.specs.Readers.{DecodesHeld, count_of}
 use Rattle.rasn_de.specs.Any.{BorrowsOpenType}
 use Rattle.rasn_de.specs.ValueErrors.{errors_of}
 use Rattle.rasn_dynamic.specs.Calls.{FailsAtNumber}
@@ -72,7 +70,7 @@ use Rattle.rasn_dynamic.specs.LeafErrors.{leaf_errors, unknown_errors, RunsOutOr
 use Rattle.rasn_dynamic.proofs.LeafErrors.{ends_somewhere}
 use Rattle.rasn_types.specs.Errors.{IsOutOfMemory}
 use Rattle.rasn_schema.specs.Fitting.{FitsBy, IsChosen, AlternativeFits}
-use Rattle.rasn_dynamic.proofs.Readers.{unopened, may_count, refused, may_close, unclosed, closed, tagged_contents, sequence_contents, set_contents, list_contents, set_of_contents, held, holds_others, enclosed_refused, enclosed_read, leaf_read, components_refused, components_put, members_refused, members_put, elements_put, set_of_put}
+use Rattle.rasn_dynamic.proofs.Readers.{unopened, may_count, refused, may_close, unclosed, closed, tagged_contents, sequence_contents, set_contents, list_contents, set_of_contents, inside_held, holds_others, enclosed_refused, enclosed_read, leaf_read, components_refused, components_put, members_refused, members_put, elements_put, set_of_put}
 
 pub decode_at-returns-in_default-clause-reads : goal.decode_at-returns-in_default-clause-reads
 decode_at-returns-in_default-clause-reads g t c = elim c.in_default.ensures [
@@ -89,11 +87,11 @@ decode_at-returns-in_default-clause-told g t c =
       | inl z ↦ refused_at_zero _ _ _ _ _ z
       | inr m ↦ refused_not_there _ _ _ _ _ m
     ] in
-    marked c.args.types.now.list.now c.args.types.now.levels c.args.id _ c.args.decoder.now _ _ _ (λ f s. absurd (not_named _ f s c.requires.clear)) c.mark.ensures (ap length c.remaining-left.ensures.value) unread.exact
+    marked c.args.types.now.list.now c.args.types.now.levels c.args.id _ c.args.decoder.now _ _ _ (λ f s. absurd (not_named _ f s c.requires.clear)) c.mark.ensures c.octets_left-left.ensures unread.exact
     (λ n. fails_missing c.args.types.now.list.now c.args.types.now.levels c.args.id.0 c.args.decoder.now _ c.in_default.ensures c.refuse_no_value.ensures)
 
 pub decode_at-decode_type-requires : goal.decode_at-decode_type-requires
-decode_at-decode_type-requires g t c = λ κs o. (search rules, (search rules, (subst IsReadable (shape_below c.args.types.now.list.now c.args.types.now.levels c.args.id.0 (c.args.types.now.levels - 1) c.in-Some.ty.now (let n = c.in-Some.ensures.0 in omega arith) c.in-Some.ensures.1) c.requires.lawful, (omega (arith, ap length c.remaining-left.ensures.value, c.len-left.type_inv), c.requires.clear))))
+decode_at-decode_type-requires g t c = λ κs o. (search rules, (search rules, (subst IsReadable (shape_below c.args.types.now.list.now c.args.types.now.levels c.args.id.0 (c.args.types.now.levels - 1) c.in-Some.ty.now (let n = c.in-Some.ensures.0 in omega arith) c.in-Some.ensures.1) c.requires.lawful, (omega (arith, c.octets_left-left.ensures, c.octets_left-left.type_inv), c.requires.clear))))
 
 pub decode_at-returns-in-Ok-clause-reads : goal.decode_at-returns-in-Ok-clause-reads
 decode_at-returns-in-Ok-clause-reads g t c = rw (shape_below c.args.types.now.list.now c.args.types.now.levels c.args.id.0 (c.args.types.now.levels - 1) c.in-Some.ty.now (let n = c.in-Some.ensures.0 in omega arith) c.in-Some.ensures.1) c.in-Ok.ensures.reads
@@ -113,7 +111,7 @@ decode_at-returns-in-Err-clause-nothing g t c = found_here _ c.in-Some.ty.now c.
 pub decode_at-returns-in-Err-clause-told : goal.decode_at-returns-in-Err-clause-told
 decode_at-returns-in-Err-clause-told g t c =
     let unread : DecodesTree (shape_of_type c.args.types.now.list.now c.args.types.now.levels c.args.id.0) c.args.decoder.now (Err c.decode_type.new.walk.error) c.decode_type.new.decoder = rw (shape_below c.args.types.now.list.now c.args.types.now.levels c.args.id.0 (c.args.types.now.levels - 1) c.in-Some.ty.now (let n = c.in-Some.ensures.0 in omega arith) c.in-Some.ensures.1) c.in-Err.ensures.reads in
-    marked c.args.types.now.list.now c.args.types.now.levels c.args.id _ c.args.decoder.now _ _ _ (λ f s. entered c.args.types.now.list.now c.args.types.now.levels c.args.id.0 (c.args.types.now.levels - 1) c.in-Some.ty.now c.args.decoder.now (let n = c.in-Some.ensures.0 in omega arith) (sym c.in-Some.ensures.1) _ f (c.in-Err.ensures.told f s)) c.mark.ensures (ap length c.remaining-left.ensures.value) unread.exact
+    marked c.args.types.now.list.now c.args.types.now.levels c.args.id _ c.args.decoder.now _ _ _ (λ f s. entered c.args.types.now.list.now c.args.types.now.levels c.args.id.0 (c.args.types.now.levels - 1) c.in-Some.ty.now c.args.decoder.now (let n = c.in-Some.ensures.0 in omega arith) (sym c.in-Some.ensures.1) _ f (c.in-Err.ensures.told f s)) c.mark.ensures c.octets_left-left.ensures unread.exact
     (found_itself c.args.types.now.list.now c.args.types.now.levels c.args.id.0 (c.args.types.now.levels - 1) c.in-Some.ty.now c.args.decoder.now _ (let n = c.in-Some.ensures.0 in omega arith) (sym c.in-Some.ensures.1) (Err c.decode_type.new.walk.error) c.in-Err.ensures.itself)
 
 -- ---- a type
@@ -166,28 +164,77 @@ decode_enclosed-returns-in-Err g t c =
     (unopened c.args.types.now.list.now c.args.types.now.levels g.M.Made.KEEP c.args.ty.now (DecodesHeld (shape_of_type c.args.types.now.list.now c.args.types.now.levels) c.args.ty.now 0) c.args.header c.args.decoder.now c.open.ensures.octets c.args.walk.now.spans (Err c.in-Err.error) c.in-Err.error c.open.new.self c.args.walk.now.fault c.args.walk.now.spans refl c.in-Err.ensures.exact c.requires.clear)
 
 pub decode_enclosed-decode_inside-read-requires : goal.decode_enclosed-decode_inside-read-requires
-decode_enclosed-decode_inside-read-requires g t c = λ κs o. (search rules, (search rules, (c.requires.lawful, (holds_others c.args.ty.now c.args.header c.requires.header, c.requires.clear))))
+decode_enclosed-decode_inside-read-requires g t c = λ κs o. (search rules, (search rules, (c.requires.lawful, (holds_others c.args.ty.now c.args.header c.requires.header, (let n = seen_short c.args.decoder.now.rest c.in-Ok.opened.0.rest (length c.args.decoder.now.rest) _ (seen_inside c.args.header c.args.decoder.now c.open.ensures.octets c.in-Ok.opened.0 c.in-Ok.opened.1 c.open.new.self c.in-Ok.ensures.exact (length c.args.decoder.now.rest) (omega arith)) (omega arith) in omega (arith, n, c.requires.short), c.requires.clear)))))
 
 pub decode_enclosed-count_after-count-requires : goal.decode_enclosed-count_after-count-requires
-decode_enclosed-count_after-count-requires g t c = may_count c.args.types.now.list.now c.args.types.now.levels g.M.Made.KEEP c.args.ty.now (DecodesHeld (shape_of_type c.args.types.now.list.now c.args.types.now.levels) c.args.ty.now (count_of c.decode_inside-read.result)) c.args.header c.args.decoder.now c.open.ensures.octets c.args.walk.now.spans (held (shape_of_type c.args.types.now.list.now c.args.types.now.levels) c.args.ty.now (count_of c.decode_inside-read.result)) c.in-Ok.opened.0 c.in-Ok.opened.1 c.open.new.self c.in-Ok.ensures.exact c.decode_inside-read.result c.decode_inside-read.new.out c.decode_inside-read.new.walk.error c.decode_inside-read.new.decoder c.decode_inside-read.new.walk.fault c.go_inside-after.new.spans c.decode_inside-read.new.walk.spans c.decode_inside-read.ensures _ refl c.requires.short
+decode_enclosed-count_after-count-requires g t c = may_count c.args.types.now.list.now c.args.types.now.levels g.M.Made.KEEP c.args.ty.now (DecodesHeld (shape_of_type c.args.types.now.list.now c.args.types.now.levels) c.args.ty.now (count_of c.decode_inside-read.result)) c.args.header c.args.decoder.now c.open.ensures.octets c.args.walk.now.spans (inside_held (shape_of_type c.args.types.now.list.now c.args.types.now.levels) c.args.ty.now (count_of c.decode_inside-read.result)) c.in-Ok.opened.0 c.in-Ok.opened.1 c.open.new.self c.in-Ok.ensures.exact c.decode_inside-read.result c.decode_inside-read.new.out c.decode_inside-read.new.walk.error c.decode_inside-read.new.decoder c.decode_inside-read.new.walk.fault c.go_inside-after.new.spans c.decode_inside-read.new.walk.spans c.decode_inside-read.ensures _ refl c.requires.short
 
 pub decode_enclosed-returns-in_err-count : goal.decode_enclosed-returns-in_err-count
 decode_enclosed-returns-in_err-count g t c = rw (residual _ c.from_residual.ensures.1)
     (enclosed_refused c.args.types.now.list.now c.args.types.now.levels g.M.Made.KEEP c.args.decoder.now c.args.walk.now.spans c.open.new.self c.count_after-count.new.fault c.decode_inside-read.new.walk.spans c.args.ty.now c.args.header c.requires.header (count_of c.decode_inside-read.result) c.decode_inside-read.new.walk.error
-    (refused c.args.types.now.list.now c.args.types.now.levels g.M.Made.KEEP c.args.ty.now (DecodesHeld (shape_of_type c.args.types.now.list.now c.args.types.now.levels) c.args.ty.now (count_of c.decode_inside-read.result)) c.args.header c.args.decoder.now c.open.ensures.octets c.args.walk.now.spans (held (shape_of_type c.args.types.now.list.now c.args.types.now.levels) c.args.ty.now (count_of c.decode_inside-read.result)) c.in-Ok.opened.0 c.in-Ok.opened.1 c.open.new.self c.in-Ok.ensures.exact c.decode_inside-read.result c.decode_inside-read.new.out c.decode_inside-read.new.walk.error c.decode_inside-read.new.decoder c.decode_inside-read.new.walk.fault c.go_inside-after.new.spans c.decode_inside-read.new.walk.spans c.decode_inside-read.ensures _ _ _ c.in_err-count.ensures))
+    (refused c.args.types.now.list.now c.args.types.now.levels g.M.Made.KEEP c.args.ty.now (DecodesHeld (shape_of_type c.args.types.now.list.now c.args.types.now.levels) c.args.ty.now (count_of c.decode_inside-read.result)) c.args.header c.args.decoder.now c.open.ensures.octets c.args.walk.now.spans (inside_held (shape_of_type c.args.types.now.list.now c.args.types.now.levels) c.args.ty.now (count_of c.decode_inside-read.result)) c.in-Ok.opened.0 c.in-Ok.opened.1 c.open.new.self c.in-Ok.ensures.exact c.decode_inside-read.result c.decode_inside-read.new.out c.decode_inside-read.new.walk.error c.decode_inside-read.new.decoder c.decode_inside-read.new.walk.fault c.go_inside-after.new.spans c.decode_inside-read.new.walk.spans c.decode_inside-read.ensures _ _ _ c.in_err-count.ensures))
 
 pub decode_enclosed-close-requires : goal.decode_enclosed-close-requires
-decode_enclosed-close-requires g t c = may_close c.args.types.now.list.now c.args.types.now.levels g.M.Made.KEEP c.args.ty.now (DecodesHeld (shape_of_type c.args.types.now.list.now c.args.types.now.levels) c.args.ty.now (count_of c.decode_inside-read.result)) c.args.header c.args.decoder.now c.open.ensures.octets c.args.walk.now.spans (held (shape_of_type c.args.types.now.list.now c.args.types.now.levels) c.args.ty.now (count_of c.decode_inside-read.result)) c.in-Ok.opened.0 c.in-Ok.opened.1 c.open.new.self c.in-Ok.ensures.exact c.decode_inside-read.result c.decode_inside-read.new.out c.decode_inside-read.new.walk.error c.decode_inside-read.new.decoder c.decode_inside-read.new.walk.fault c.go_inside-after.new.spans c.decode_inside-read.new.walk.spans c.decode_inside-read.ensures _ _ c.in_ok-count.ensures _ c.remaining.ensures.value
+decode_enclosed-close-requires g t c = may_close c.args.types.now.list.now c.args.types.now.levels g.M.Made.KEEP c.args.ty.now (DecodesHeld (shape_of_type c.args.types.now.list.now c.args.types.now.levels) c.args.ty.now (count_of c.decode_inside-read.result)) c.args.header c.args.decoder.now c.open.ensures.octets c.args.walk.now.spans (inside_held (shape_of_type c.args.types.now.list.now c.args.types.now.levels) c.args.ty.now (count_of c.decode_inside-read.result)) c.in-Ok.opened.0 c.in-Ok.opened.1 c.open.new.self c.in-Ok.ensures.exact c.decode_inside-read.result c.decode_inside-read.new.out c.decode_inside-read.new.walk.error c.decode_inside-read.new.decoder c.decode_inside-read.new.walk.fault c.go_inside-after.new.spans c.decode_inside-read.new.walk.spans c.decode_inside-read.ensures _ _ c.in_ok-count.ensures _ c.remaining.ensures.value
 
 pub decode_enclosed-returns-in-Err-close : goal.decode_enclosed-returns-in-Err-close
 decode_enclosed-returns-in-Err-close g t c =
     enclosed_refused c.args.types.now.list.now c.args.types.now.levels g.M.Made.KEEP c.args.decoder.now c.args.walk.now.spans c.close.new.self c.count_after-count.new.fault c.decode_inside-read.new.walk.spans c.args.ty.now c.args.header c.requires.header (count_of c.decode_inside-read.result) c.in-Err-close.error
-    (unclosed c.args.types.now.list.now c.args.types.now.levels g.M.Made.KEEP c.args.ty.now (DecodesHeld (shape_of_type c.args.types.now.list.now c.args.types.now.levels) c.args.ty.now (count_of c.decode_inside-read.result)) c.args.header c.args.decoder.now c.open.ensures.octets c.args.walk.now.spans (held (shape_of_type c.args.types.now.list.now c.args.types.now.levels) c.args.ty.now (count_of c.decode_inside-read.result)) c.in-Ok.opened.0 c.in-Ok.opened.1 c.open.new.self c.in-Ok.ensures.exact c.decode_inside-read.result c.decode_inside-read.new.out c.decode_inside-read.new.walk.error c.decode_inside-read.new.decoder c.decode_inside-read.new.walk.fault c.go_inside-after.new.spans c.decode_inside-read.new.walk.spans c.decode_inside-read.ensures _ c.count_after-count.new.fault c.in_ok-count.ensures c.decode_inside-read.new.walk.spans c.remaining.result.now c.remaining.ensures.value c.close.new.self c.in-Err-close.error c.in-Err-close.ensures)
+    (unclosed c.args.types.now.list.now c.args.types.now.levels g.M.Made.KEEP c.args.ty.now (DecodesHeld (shape_of_type c.args.types.now.list.now c.args.types.now.levels) c.args.ty.now (count_of c.decode_inside-read.result)) c.args.header c.args.decoder.now c.open.ensures.octets c.args.walk.now.spans (inside_held (shape_of_type c.args.types.now.list.now c.args.types.now.levels) c.args.ty.now (count_of c.decode_inside-read.result)) c.in-Ok.opened.0 c.in-Ok.opened.1 c.open.new.self c.in-Ok.ensures.exact c.decode_inside-read.result c.decode_inside-read.new.out c.decode_inside-read.new.walk.error c.decode_inside-read.new.decoder c.decode_inside-read.new.walk.fault c.go_inside-after.new.spans c.decode_inside-read.new.walk.spans c.decode_inside-read.ensures _ c.count_after-count.new.fault c.in_ok-count.ensures c.decode_inside-read.new.walk.spans c.remaining.result.now c.remaining.ensures.value c.close.new.self c.in-Err-close.error c.in-Err-close.ensures)
 
 pub decode_enclosed-returns : goal.decode_enclosed-returns
 decode_enclosed-returns g t c =
     enclosed_read c.args.types.now.list.now c.args.types.now.levels g.M.Made.KEEP c.args.decoder.now c.args.walk.now.spans c.close.new.self c.count_after-count.new.fault c.go_outside.new.spans c.args.ty.now c.args.header c.requires.header (count_of c.decode_inside-read.result) c.decode_inside-read.new.out
-    (closed c.args.types.now.list.now c.args.types.now.levels g.M.Made.KEEP c.args.ty.now (DecodesHeld (shape_of_type c.args.types.now.list.now c.args.types.now.levels) c.args.ty.now (count_of c.decode_inside-read.result)) c.args.header c.args.decoder.now c.open.ensures.octets c.args.walk.now.spans (held (shape_of_type c.args.types.now.list.now c.args.types.now.levels) c.args.ty.now (count_of c.decode_inside-read.result)) c.in-Ok.opened.0 c.in-Ok.opened.1 c.open.new.self c.in-Ok.ensures.exact c.decode_inside-read.result c.decode_inside-read.new.out c.decode_inside-read.new.walk.error c.decode_inside-read.new.decoder c.decode_inside-read.new.walk.fault c.go_inside-after.new.spans c.decode_inside-read.new.walk.spans c.decode_inside-read.ensures _ c.count_after-count.new.fault c.in_ok-count.ensures c.go_outside.new.spans c.remaining.result.now c.remaining.ensures.value c.close.new.self c.go_inside-after.result c.go_inside-after.ensures c.go_outside.ensures c.in-Ok-close.ensures) c.check_size.result c.check_size.new.error c.check_size.ensures.sized c.check_size.ensures.rules
+    (closed c.args.types.now.list.now c.args.types.now.levels g.M.Made.KEEP c.args.ty.now (DecodesHeld (shape_of_type c.args.types.now.list.now c.args.types.now.levels) c.args.ty.now (count_of c.decode_inside-read.result)) c.args.header c.args.decoder.now c.open.ensures.octets c.args.walk.now.spans (inside_held (shape_of_type c.args.types.now.list.now c.args.types.now.levels) c.args.ty.now (count_of c.decode_inside-read.result)) c.in-Ok.opened.0 c.in-Ok.opened.1 c.open.new.self c.in-Ok.ensures.exact c.decode_inside-read.result c.decode_inside-read.new.out c.decode_inside-read.new.walk.error c.decode_inside-read.new.decoder c.decode_inside-read.new.walk.fault c.go_inside-after.new.spans c.decode_inside-read.new.walk.spans c.decode_inside-read.ensures _ c.count_after-count.new.fault c.in_ok-count.ensures c.go_outside.new.spans c.remaining.result.now c.remaining.ensures.value c.close.new.self c.go_inside-after.result c.go_inside-after.ensures c.go_outside.ensures c.in-Ok-close.ensures) c.check_size.result c.check_size.new.error c.check_size.ensures.sized c.check_size.ensures.rules
+
+-- ---- what is inside
+
+pub decode_inside-decode_part-requires : goal.decode_inside-decode_part-requires
+decode_inside-decode_part-requires g t c = λ κs o. (search rules, (search rules, (prefix_lawful _ _ (subst (λ n. IsReadable (type_by (shape_of_type c.args.types.now.list.now c.args.types.now.levels) n)) c.in-Tagged.is c.requires.lawful), c.requires.clear)))
+
+pub decode_inside-returns-in_err-decode_part : goal.decode_inside-returns-in_err-decode_part
+decode_inside-returns-in_err-decode_part g t c =
+    rw (residual _ c.from_residual.ensures.1) (rw c.in-Tagged.is (tagged_contents c.args.types.now.list.now c.args.types.now.levels g.M.Made.KEEP c.args.decoder.now c.args.walk.now.spans (Err c.decode_part.new.walk.error) c.decode_part.new.decoder c.decode_part.new.walk.fault c.decode_part.new.walk.spans _ _ c.in_err-decode_part.ensures.reads (λ k. tt) c.in_err-decode_part.ensures.rules c.in_err-decode_part.ensures.told tt))
+
+pub decode_inside-returns-in_ok-decode_part : goal.decode_inside-returns-in_ok-decode_part
+decode_inside-returns-in_ok-decode_part g t c =
+    rw c.in-Tagged.is (tagged_contents c.args.types.now.list.now c.args.types.now.levels g.M.Made.KEEP c.args.decoder.now c.args.walk.now.spans (Ok c.decode_part.new.out) c.decode_part.new.decoder c.decode_part.new.walk.fault c.decode_part.new.walk.spans _ _ c.in_ok-decode_part.ensures.reads c.in_ok-decode_part.ensures.fits tt c.in_ok-decode_part.ensures.told c.in_ok-decode_part.ensures.listed)
+
+pub decode_inside-put_components-requires : goal.decode_inside-put_components-requires
+decode_inside-put_components-requires g t c = λ κs o. (search rules, (search rules, (lawful_parts (shape_of_type c.args.types.now.list.now c.args.types.now.levels) _ (seq_lawful _ _ (subst (λ n. IsReadable (type_by (shape_of_type c.args.types.now.list.now c.args.types.now.levels) n)) c.in-Sequence.is c.requires.lawful)), c.requires.clear)))
+
+pub decode_inside-returns-in_err-put_components : goal.decode_inside-returns-in_err-put_components
+decode_inside-returns-in_err-put_components g t c =
+    rw (residual _ c.from_residual-in_err-put_components.ensures.1) (rw c.in-Sequence.is (sequence_contents c.args.types.now.list.now c.args.types.now.levels g.M.Made.KEEP c.args.decoder.now c.args.walk.now.spans (Err c.put_components.new.walk.error) c.put_components.new.decoder c.put_components.new.walk.fault c.put_components.new.walk.spans _ _ c.in_err-put_components.ensures))
+
+pub decode_inside-returns-in_ok-put_components : goal.decode_inside-returns-in_ok-put_components
+decode_inside-returns-in_ok-put_components g t c =
+    rw c.in-Sequence.is (sequence_contents c.args.types.now.list.now c.args.types.now.levels g.M.Made.KEEP c.args.decoder.now c.args.walk.now.spans (Ok c.put_components.new.out) c.put_components.new.decoder c.put_components.new.walk.fault c.put_components.new.walk.spans _ _ c.in_ok-put_components.ensures)
+
+pub decode_inside-put_set_components-requires : goal.decode_inside-put_set_components-requires
+decode_inside-put_set_components-requires g t c = λ κs o. (search rules, (search rules, (named_lawful (shape_of_type c.args.types.now.list.now c.args.types.now.levels) c.in-Set.tag c.in-Set.components.items _ refl (subst (λ n. IsReadable (type_by (shape_of_type c.args.types.now.list.now c.args.types.now.levels) n)) c.in-Set.is c.requires.lawful), c.requires.clear)))
+
+pub decode_inside-returns-in_err-put_set_components : goal.decode_inside-returns-in_err-put_set_components
+decode_inside-returns-in_err-put_set_components g t c =
+    rw (residual _ c.from_residual-in_err-put_set_components.ensures.1) (rw c.in-Set.is (set_contents c.args.types.now.list.now c.args.types.now.levels g.M.Made.KEEP c.args.decoder.now c.args.walk.now.spans (Err c.put_set_components.new.walk.error) c.put_set_components.new.decoder c.put_set_components.new.walk.fault c.put_set_components.new.walk.spans _ _ _ c.in_err-put_set_components.ensures))
+
+pub decode_inside-returns-in_ok-put_set_components : goal.decode_inside-returns-in_ok-put_set_components
+decode_inside-returns-in_ok-put_set_components g t c =
+    rw c.in-Set.is (set_contents c.args.types.now.list.now c.args.types.now.levels g.M.Made.KEEP c.args.decoder.now c.args.walk.now.spans (Ok c.put_set_components.new.out) c.put_set_components.new.decoder c.put_set_components.new.walk.fault c.put_set_components.new.walk.spans _ _ _ c.in_ok-put_set_components.ensures)
+
+pub decode_inside-put_elements-requires : goal.decode_inside-put_elements-requires
+decode_inside-put_elements-requires g t c = λ κs o. (search rules, (search rules, (list_lawful _ _ c.in-SequenceOf.constraints.size (subst (λ n. IsReadable (type_by (shape_of_type c.args.types.now.list.now c.args.types.now.levels) n)) c.in-SequenceOf.is c.requires.lawful), (c.requires.short, c.requires.clear))))
+
+pub decode_inside-returns-in-SequenceOf : goal.decode_inside-returns-in-SequenceOf
+decode_inside-returns-in-SequenceOf g t c =
+    rw c.in-SequenceOf.is (list_contents c.args.types.now.list.now c.args.types.now.levels g.M.Made.KEEP c.args.decoder.now c.args.walk.now.spans (outcome c.put_elements.result c.put_elements.new.out c.put_elements.new.walk.error) c.put_elements.new.decoder c.put_elements.new.walk.fault c.put_elements.new.walk.spans _ _ _ (count_of c.put_elements.result) c.put_elements.ensures)
+
+pub decode_inside-put_elements_in_order-requires : goal.decode_inside-put_elements_in_order-requires
+decode_inside-put_elements_in_order-requires g t c = λ κs o. (search rules, (search rules, (set_of_lawful _ _ c.in-SetOf.constraints.size (subst (λ n. IsReadable (type_by (shape_of_type c.args.types.now.list.now c.args.types.now.levels) n)) c.in-SetOf.is c.requires.lawful), (c.requires.short, c.requires.clear))))
+
+pub decode_inside-returns-in-SetOf : goal.decode_inside-returns-in-SetOf
+decode_inside-returns-in-SetOf g t c =
+    rw c.in-SetOf.is (set_of_contents c.args.types.now.list.now c.args.types.now.levels g.M.Made.KEEP c.args.decoder.now c.args.walk.now.spans (outcome c.put_elements_in_order.result c.put_elements_in_order.new.out c.put_elements_in_order.new.walk.error) c.put_elements_in_order.new.decoder c.put_elements_in_order.new.walk.fault c.put_elements_in_order.new.walk.spans _ _ _ (count_of c.put_elements_in_order.result) c.put_elements_in_order.ensures)
 
 -- ---- CHOICE
 
@@ -331,14 +378,6 @@ decode_elements-loop-element-preserved g t c =
       (λ k. each_more (Fits c.args.types.now.list.now c.args.types.now.levels c.args.element.0) c.loop-element.values.items _ c.decode_part.new.out (c.in_ok-keep.ensures.appended.0 k) (c.loop-element.invariant.1 k) (c.in_ok-decode_part.ensures.fits k)),
       c.in_ok-decode_part.ensures.told,
       lists_more (λ b k. PartListed (shape_of_type c.args.types.now.list.now c.args.types.now.levels) c.args.types.now.levels (Inside c.args.types.now.list.now c.args.types.now.levels) c.args.element.0 k b) c.loop-element.count c.args.decoder.now c.loop-element.decoder _ _ _ _ c.loop-element.invariant.3 c.in_ok-decode_part.ensures.listed,
-      (
-          let at = ap length c.remaining-left.ensures.value in
-          let m = one_taken c.loop-element.decoder.rest w.2.end.0 _ w.2.end.1 (λ e. c.in_ok-keep.ensures.appended.1 (e ∙ sym at)) in
-          inr (elim c.loop-element.invariant.4 [
-            | inl z ↦ omega (arith, z, m, at, c.len-left.type_inv)
-            | inr z ↦ omega (arith, z, m)
-          ])
-          ),
     )
 
 pub decode_elements-returns-in_err-keep-clause-reads : goal.decode_elements-returns-in_err-keep-clause-reads
@@ -374,16 +413,15 @@ decode_elements-returns-clause-reads g t c =
 
 pub decode_elements-overflow_add-count : goal.decode_elements-overflow_add-count
 decode_elements-overflow_add-count g t c =
+    let i = c.loop-element.invariant.0 in
     let w = c.in_ok-decode_part.ensures.reads in
-    let at = ap length c.remaining-left.ensures.value in
-    let m = one_taken c.loop-element.decoder.rest w.2.end.0 _ w.2.end.1 (λ e. c.in_ok-keep.ensures.appended.1 (e ∙ sym at)) in
-    elim c.loop-element.invariant.4 [
-      | inl z ↦ omega (arith, z)
-      | inr z ↦ omega (arith, z, m)
-    ]
+    let n = turns_long (shape_of_type c.args.types.now.list.now c.args.types.now.levels c.args.element.0) (λ (z : Tree). z) c.args.decoder.now i.0 c.loop-element.decoder i.3 in
+    let m = one_taken c.loop-element.decoder.rest w.2.end.0 _ w.2.end.1 (λ e. c.in_ok-keep.ensures.appended.1 (e ∙ sym (ap length c.remaining-left.ensures.value))) in
+    let l = i.2 in
+    omega (arith, l, n, m, c.requires.short)
 
 pub decode_elements-loop-element-init : goal.decode_elements-loop-element-init
-decode_elements-loop-element-init g t c = rw c.requires.empty (([], (λ k. refl), refl, refl), (λ k. tt), c.requires.clear, lists_start (λ b k. PartListed (shape_of_type c.args.types.now.list.now c.args.types.now.levels) c.args.types.now.levels (Inside c.args.types.now.list.now c.args.types.now.levels) c.args.element.0 k b) _ c.args.decoder.now _ refl, inl refl)
+decode_elements-loop-element-init g t c = rw c.requires.empty (([], (λ k. refl), refl, refl), (λ k. tt), c.requires.clear, lists_start (λ b k. PartListed (shape_of_type c.args.types.now.list.now c.args.types.now.levels) c.args.types.now.levels (Inside c.args.types.now.list.now c.args.types.now.levels) c.args.element.0 k b) _ c.args.decoder.now _ refl)
 
 pub decode_elements-returns-clause-told : goal.decode_elements-returns-clause-told
 decode_elements-returns-clause-told g t c = c.loop-element.invariant.2
@@ -401,7 +439,7 @@ pub decode_elements-returns-in_err-keep-clause-rules : goal.decode_elements-retu
 decode_elements-returns-in_err-keep-clause-rules g t c = rw (residual _ c.from_residual-in_err-keep.ensures.1) (c.in_err-keep.ensures.rules ∙ same_rules c.in_ok-decode_part.ensures.reads.2.stays ∙ turn_rules (shape_of_type c.args.types.now.list.now c.args.types.now.levels c.args.element.0) (λ (z : Tree). z) _ _ _ c.loop-element.invariant.0.3)
 
 pub decode_elements_in_order-loop-last-init : goal.decode_elements_in_order-loop-last-init
-decode_elements_in_order-loop-last-init g t c = rw c.requires.empty (([], [], (λ k. refl), refl, (refl, refl), (λ strict. tt), refl), (λ k. tt), c.requires.clear, lists_start (λ b k. PartListed (shape_of_type c.args.types.now.list.now c.args.types.now.levels) c.args.types.now.levels (Inside c.args.types.now.list.now c.args.types.now.levels) c.args.element.0 k b) _ c.args.decoder.now _ refl, inl refl)
+decode_elements_in_order-loop-last-init g t c = rw c.requires.empty (([], [], (λ k. refl), refl, (refl, refl), (λ strict. tt), refl), (λ k. tt), c.requires.clear, lists_start (λ b k. PartListed (shape_of_type c.args.types.now.list.now c.args.types.now.levels) c.args.types.now.levels (Inside c.args.types.now.list.now c.args.types.now.levels) c.args.element.0 k b) _ c.args.decoder.now _ refl)
 
 pub decode_elements_in_order-returns-clause-told : goal.decode_elements_in_order-returns-clause-told
 decode_elements_in_order-returns-clause-told g t c = c.loop-last.invariant.2
@@ -423,13 +461,13 @@ decode_elements_in_order-returns-clause-reads g t c =
 
 pub decode_elements_in_order-overflow_add-count : goal.decode_elements_in_order-overflow_add-count
 decode_elements_in_order-overflow_add-count g t c =
+    let i = c.loop-last.invariant.0 in
     let w = c.in_ok-decode_part.ensures.reads in
-    let at = ap length c.remaining-start.ensures.value in
-    let m = one_taken c.loop-last.decoder.rest w.2.end.0 _ w.2.end.1 (λ e. c.in_ok-keep.ensures.appended.1 (e ∙ sym at)) in
-    elim c.loop-last.invariant.4 [
-      | inl z ↦ omega (arith, z)
-      | inr z ↦ omega (arith, z, m)
-    ]
+    let p = forgotten (DecodesTree (shape_of_type c.args.types.now.list.now c.args.types.now.levels c.args.element.0)) c.args.decoder.now i.0 i.1 c.loop-last.decoder i.4 in
+    let n = turns_long (shape_of_type c.args.types.now.list.now c.args.types.now.levels c.args.element.0) (λ (z : Tree). z) c.args.decoder.now i.0 c.loop-last.decoder p in
+    let m = one_taken c.loop-last.decoder.rest w.2.end.0 _ w.2.end.1 (λ e. c.in_ok-keep.ensures.appended.1 (e ∙ sym (ap length c.remaining-start.ensures.value))) in
+    let l = i.3 in
+    omega (arith, l, n, m, c.requires.short)
 
 -- ---- elements in order
 
@@ -505,14 +543,6 @@ decode_elements_in_order-loop-last-preserved g t c =
       (λ q. each_more (Fits c.args.types.now.list.now c.args.types.now.levels c.args.element.0) c.loop-last.values.items _ c.decode_part.new.out (c.in_ok-keep.ensures.appended.0 q) (c.loop-last.invariant.1 q) (c.in_ok-decode_part.ensures.fits q)),
       c.in_ok-decode_part.ensures.told,
       lists_more (λ b k. PartListed (shape_of_type c.args.types.now.list.now c.args.types.now.levels) c.args.types.now.levels (Inside c.args.types.now.list.now c.args.types.now.levels) c.args.element.0 k b) c.loop-last.count c.args.decoder.now c.loop-last.decoder _ _ _ _ c.loop-last.invariant.3 c.in_ok-decode_part.ensures.listed,
-      (
-          let at = ap length c.remaining-start.ensures.value in
-          let m = one_taken c.loop-last.decoder.rest w.2.end.0 _ w.2.end.1 (λ e. c.in_ok-keep.ensures.appended.1 (e ∙ sym at)) in
-          inr (elim c.loop-last.invariant.4 [
-            | inl z ↦ omega (arith, z, m, at, c.len.type_inv)
-            | inr z ↦ omega (arith, z, m)
-          ])
-          ),
     )
 
 pub decode_elements_in_order-returns-in_err-decode_part-clause-rules : goal.decode_elements_in_order-returns-in_err-decode_part-clause-rules
@@ -1204,7 +1234,7 @@ decode_set_component-returns-then-remaining-left-clause-itself g t c =
 pub decode_part-returns-in-Ok-clause-listed : goal.decode_part-returns-in-Ok-clause-listed
 decode_part-returns-in-Ok-clause-listed g t c =
     let w = c.in-Ok.ensures.reads in
-    part_listed c.args.types.now.list.now c.args.types.now.levels c.args.id c.args.index _ _ _ c.args.decoder.now _ _ _ _ _ w.0 c.remaining.ensures.value c.remaining-in-Ok.ensures.value c.note-place.ensures c.in-Ok.ensures.listed c.finish.ensures w.2
+    part_listed c.args.types.now.list.now c.args.types.now.levels c.args.id c.args.index _ _ _ c.args.decoder.now _ _ _ _ _ w.0 c.remaining-start.ensures.value c.remaining.ensures.value c.note-place.ensures c.in-Ok.ensures.listed c.finish.ensures w.2
 
 pub decode_choice-returns-clause-listed : goal.decode_choice-returns-clause-listed
 decode_choice-returns-clause-listed g t c =
@@ -1261,18 +1291,6 @@ decode_compared-returns-in-None-clause-listed g t c =
     let P : State → Spans → Type 0 = λ z o. IfOk (outcome c.decode_part.result c.decode_part.new.out c.decode_part.new.walk.error) (λ v. Lists (λ b es. PartListed (shape_of_type c.args.types.now.list.now c.args.types.now.levels) c.args.types.now.levels (Inside c.args.types.now.list.now c.args.types.now.levels) c.args.id.0 c.args.index b z c.decode_part.new.decoder es) o c.decode_part.new.walk.spans) in
     subst (λ o. P c.args.decoder.now o) c.in-None.ensures.listed (subst (λ z. P z c.decode_value.new.walk.spans) w.1 c.decode_part.ensures.listed)
 
--- ---- a header, contents and their end
-
--- decode_tagged
-
--- decode_sequence
-
--- decode_set
-
--- decode_sequence_of
-
--- decode_set_of
-
 -- ---- contents
 
 -- put_components
@@ -1301,7 +1319,7 @@ put_components-returns g t c =
 -- put_elements
 
 pub put_elements-decode_elements-requires : goal.put_elements-decode_elements-requires
-put_elements-decode_elements-requires g t c = λ κs o. (search rules, (search rules, (c.requires.lawful, (c.new-values.ensures.items, c.requires.clear))))
+put_elements-decode_elements-requires g t c = λ κs o. (search rules, (search rules, (c.requires.lawful, (c.new-values.ensures.items, (c.requires.short, c.requires.clear)))))
 
 pub put_elements-returns-in_err-decode_elements : goal.put_elements-returns-in_err-decode_elements
 put_elements-returns-in_err-decode_elements g t c = rw (residual _ c.from_residual.ensures.1) (record {
@@ -1318,7 +1336,7 @@ put_elements-returns g t c =
     elements_put c.args.types.now.list.now c.args.types.now.levels g.M.Made.KEEP c.args.decoder.now c.args.walk.now.spans c.decode_elements.new.decoder c.decode_elements.new.walk.fault c.decode_elements.new.walk.spans c.args.element c.decode_elements.new.count c.decode_elements.new.values _ c.put_items.ensures c.in_ok-decode_elements.ensures.reads c.in_ok-decode_elements.ensures.fits c.in_ok-decode_elements.ensures.told c.in_ok-decode_elements.ensures.listed
 
 pub put_elements_in_order-decode_elements_in_order-requires : goal.put_elements_in_order-decode_elements_in_order-requires
-put_elements_in_order-decode_elements_in_order-requires g t c = λ κs o. (search rules, (search rules, (c.requires.lawful, (c.new-values.ensures.items, c.requires.clear))))
+put_elements_in_order-decode_elements_in_order-requires g t c = λ κs o. (search rules, (search rules, (c.requires.lawful, (c.new-values.ensures.items, (c.requires.short, c.requires.clear)))))
 
 pub put_elements_in_order-returns-in_err-decode_elements_in_order : goal.put_elements_in_order-returns-in_err-decode_elements_in_order
 put_elements_in_order-returns-in_err-decode_elements_in_order g t c = rw (residual _ c.from_residual.ensures.1) (record {
@@ -1345,7 +1363,7 @@ put_set_components-decode_set_components-requires g t c = λ κs o. (
       subst (λ l. AreLawfulMembers (components_by (shape_of_type c.args.types.now.list.now c.args.types.now.levels) l)) (sym c.named_components-extensible.ensures.named) (rw c.deref-components.ensures.value c.requires.lawful),
       (
         subst (λ z. IfOk z (λ v. v.items ≡ nones c.named_components-extensible.result.0.now)) (sym c.in_ok-found.ensures) c.no_components.ensures.ok,
-        (c.requires.clear, λ x. ap (shape_of_type c.args.types.now.list.now c.args.types.now.levels) c.last_type-other_id.ensures ∙ last_unknown (shape_of_type c.args.types.now.list.now c.args.types.now.levels) c.deref-components.result.now (sym c.named_components-extensible.ensures.extensible ∙ x)),
+        (c.requires.clear, λ x. ap (shape_of_type c.args.types.now.list.now c.args.types.now.levels) c.last_type.ensures ∙ last_unknown (shape_of_type c.args.types.now.list.now c.args.types.now.levels) c.deref-components.result.now (sym c.named_components-extensible.ensures.extensible ∙ x)),
       ),
     ),
   ),
@@ -1363,9 +1381,9 @@ put_set_components-returns-in_err-found g t c = rw (residual _ c.from_residual.e
 
 pub put_set_components-returns-in_err-values : goal.put_set_components-returns-in_err-values
 put_set_components-returns-in_err-values g t c = rw (residual _ c.from_residual-in_err-values.ensures.1)
-    (members_refused c.args.types.now.list.now c.args.types.now.levels g.M.Made.KEEP c.args.decoder.now c.args.walk.now.spans c.decode_set_components.new.decoder c.decode_set_components.new.walk.fault c.decode_set_components.new.walk.spans c.args.name.now c.args.components.now c.deref-components.result.now c.deref-components.ensures.value c.named_components-extensible.result.1 c.named_components-extensible.result.0.now c.last_type-other_id.result.0 c.named_components-extensible.ensures.extensible c.named_components-extensible.ensures.named c.last_type-other_id.ensures c.decode_set_components.new.walk.error c.in_err-values.ensures.exact c.in_err-values.ensures.rules c.in_err-values.ensures.told
-    (λ n. subst (λ t. StopsInSet (shape_of_type c.args.types.now.list.now c.args.types.now.levels) t c.named_components-extensible.result.1 c.named_components-extensible.result.0.now c.args.decoder.now c.decode_set_components.new.walk.error) c.as_str-name.ensures.value (c.in_err-values.ensures.itself n)))
+    (members_refused c.args.types.now.list.now c.args.types.now.levels g.M.Made.KEEP c.args.decoder.now c.args.walk.now.spans c.decode_set_components.new.decoder c.decode_set_components.new.walk.fault c.decode_set_components.new.walk.spans c.args.name.now c.args.components.now c.deref-components.result.now c.deref-components.ensures.value c.named_components-extensible.result.1 c.named_components-extensible.result.0.now c.last_type.result.0 c.named_components-extensible.ensures.extensible c.named_components-extensible.ensures.named c.last_type.ensures c.decode_set_components.new.walk.error c.in_err-values.ensures.exact c.in_err-values.ensures.rules c.in_err-values.ensures.told
+    (λ n. subst (λ t. StopsInSet (shape_of_type c.args.types.now.list.now c.args.types.now.levels) t c.named_components-extensible.result.1 c.named_components-extensible.result.0.now c.args.decoder.now c.decode_set_components.new.walk.error) c.as_str.ensures.value (c.in_err-values.ensures.itself n)))
 
 pub put_set_components-returns : goal.put_set_components-returns
 put_set_components-returns g t c =
-    members_put c.args.types.now.list.now c.args.types.now.levels g.M.Made.KEEP c.args.decoder.now c.args.walk.now.spans c.decode_set_components.new.decoder c.decode_set_components.new.walk.fault c.decode_set_components.new.walk.spans c.args.name.now c.args.components.now c.deref-components.result.now c.deref-components.ensures.value c.named_components-extensible.result.1 c.named_components-extensible.result.0.now c.last_type-other_id.result.0 c.named_components-extensible.ensures.extensible c.named_components-extensible.ensures.named c.last_type-other_id.ensures c.in_ok-values.values _ c.put_items.ensures c.in_ok-values.ensures.exact c.in_ok-values.ensures.fits c.in_ok-values.ensures.told c.in_ok-values.ensures.listed
+    members_put c.args.types.now.list.now c.args.types.now.levels g.M.Made.KEEP c.args.decoder.now c.args.walk.now.spans c.decode_set_components.new.decoder c.decode_set_components.new.walk.fault c.decode_set_components.new.walk.spans c.args.name.now c.args.components.now c.deref-components.result.now c.deref-components.ensures.value c.named_components-extensible.result.1 c.named_components-extensible.result.0.now c.last_type.result.0 c.named_components-extensible.ensures.extensible c.named_components-extensible.ensures.named c.last_type.ensures c.in_ok-values.values _ c.put_items.ensures c.in_ok-values.ensures.exact c.in_ok-values.ensures.fits c.in_ok-values.ensures.told c.in_ok-values.ensures.listed

@@ -1,4 +1,4 @@
-use Rattle.std.proofs.Common.{◌≡◌, ◌⊎◌, ◌<◌, ◌^◌, ℕ, ◌+◌, ◌*◌, ◌++◌, map, length, List, [], Option, None, true, false}
+use Rattle.std.proofs.Common.{◌≡◌, ℕ, ◌+◌, ◌*◌, ◌++◌, map, length, List, [], Option, None, true, false}
 use Rattle.rasn_schema.specs.declared.types.Component.{Component}
 use Rattle.rasn_dynamic.specs.Faults.{ComponentsInTurn}
 use Rattle.rasn_types.specs.Tags.{IsStrict}
@@ -68,7 +68,6 @@ abbrev pub invariant-decode_elements-loop-element : goal.invariant-decode_elemen
 invariant-decode_elements-loop-element g l = ((ts : List Tree) × (g.M.Made.KEEP ≡ true → map tree_of l.values.items ≡ ts) × (l.count ≡ length ts) × DecodesInTurn (DecodesTree (shape_of_type l.types.list.now l.types.levels l.element.0)) l.fn.decoder ts l.decoder)
     × (g.M.Made.KEEP ≡ true → EachFits (Fits l.types.list.now l.types.levels l.element.0) l.values.items) × (l.walk.fault ≡ None)
     × Lists (λ b es. InTurn (λ k. PartListed (shape_of_type l.types.list.now l.types.levels) l.types.levels (Inside l.types.list.now l.types.levels) l.element.0 k b) l.count l.fn.decoder l.decoder es) l.fn.walk.spans l.walk.spans
-    × ((l.count ≡ 0) ⊎ (l.count + length l.decoder.rest < 2 ^ 64))
 
 abbrev pub decreases-decode_elements-loop-element : goal.decreases-decode_elements-loop-element
 decreases-decode_elements-loop-element g l = length l.decoder.rest
@@ -78,7 +77,6 @@ invariant-decode_elements_in_order-loop-last g l = ((ts : List Tree) × (bs : Li
     × DecodesInTurnFrom (DecodesTree (shape_of_type l.types.list.now l.types.levels l.element.0)) l.fn.decoder ts bs l.decoder × (IsStrict l.fn.decoder.rule → AreAscending IsLess bs) × EndsBy bs l.last)
     × (g.M.Made.KEEP ≡ true → EachFits (Fits l.types.list.now l.types.levels l.element.0) l.values.items) × (l.walk.fault ≡ None)
     × Lists (λ b es. InTurn (λ k. PartListed (shape_of_type l.types.list.now l.types.levels) l.types.levels (Inside l.types.list.now l.types.levels) l.element.0 k b) l.count l.fn.decoder l.decoder es) l.fn.walk.spans l.walk.spans
-    × ((l.count ≡ 0) ⊎ (l.count + length l.decoder.rest < 2 ^ 64))
 
 abbrev pub decreases-decode_elements_in_order-loop-last : goal.decreases-decode_elements_in_order-loop-last
 decreases-decode_elements_in_order-loop-last g l = length l.decoder.rest
