@@ -41,7 +41,7 @@ use Rattle.rasn_dynamic.specs.Typed.{elements, element_count, IsSized, MayRunOut
 use Rattle.rasn_dynamic.specs.Faults.{octets_after, IsFaultIn, IsFaultOf, IsFaultInside, IsAnyPart, IsOnly, IsComponentAt, IsMemberAfter, Told, TellsOf, ReadsEachPart, StopsInSequence, StopsInSet, FailsItself}
 use Rattle.rasn_dynamic.specs.Listed.{Lists, Inside, IsInside, IsOutside, PartListed, InsideListed, ComponentsListed, MembersListed, ElementsListed}
 use Rattle.rasn_dynamic.specs.Parts.{IsHeaderOf}
-use Rattle.rasn_dynamic.specs.Readers.{IsCounted, DecodesCounted, DecodesHeld, IsSizedAs, ReadsContents, ReadsType}
+use Rattle.rasn_dynamic.specs.Readers.{IsCounted, DecodesCounted, count_of, DecodesHeld, IsSizedAs, ReadsContents, ReadsType}
 use Rattle.rasn_dynamic.proofs.Making.{made_as, items_made, elements_made}
 use Rattle.rasn_dynamic.proofs.Typed.{contents_end, contents_stay, is_sized, missized, not_sized, type_decodes, count_items, named_so}
 use Rattle.rasn_dynamic.proofs.FitsRead.{if_ok, are_items, are_elements, members_fit}
@@ -75,6 +75,25 @@ inside_held f (Sequence tag ps) n o r m h = h
 inside_held f (Set name tag ps) n o r m h = h
 inside_held f (SequenceOf tag id c) n o r m h = counted (DecodesContents f (SequenceOf tag id c)) n o r m h
 inside_held f (SetOf tag id c) n o r m h = counted (DecodesContents f (SetOf tag id c)) n o r m h
+
+-- The number is passed on.
+pub count_is : (n : ℕ) (q : Result ℕ Refused) (old : Option Fault) (m : ℕ) (new : Option Fault) → IsCounted n q old (Ok m) new → m ≡ count_of q
+count_is n (Ok k) old m new w = w.0
+count_is n (Err p) old m new w = absurd w
+
+-- No other type than these two has a bound.
+pub unbounded : (ty : «Type») → ((tag : Tag) (id : TypeId) (c : Constraints) → ty ≡ SequenceOf tag id c → ⊥) → ((tag : Tag) (id : TypeId) (c : Constraints) → ty ≡ SetOf tag id c → ⊥)
+    → (s : State) (n : ℕ) → IsSizedAs ty s n (Ok tt)
+unbounded (Leaf kind tag c names) a b s n = refl
+unbounded (Enumerated tag ns) a b s n = refl
+unbounded (Any tag) a b s n = refl
+unbounded Unknown a b s n = refl
+unbounded (Tagged tag id) a b s n = refl
+unbounded (Choice name ks) a b s n = refl
+unbounded (Sequence tag ps) a b s n = refl
+unbounded (Set name tag ps) a b s n = refl
+unbounded (SequenceOf tag id c) a b s n = absurd (a tag id c refl)
+unbounded (SetOf tag id c) a b s n = absurd (b tag id c refl)
 
 -- A type with a header holds others.
 pub holds_others : (ty : «Type») (d : ConstructedHeader) → IsHeaderOf ty (Some d) → HoldsOthers ty

@@ -24,7 +24,7 @@ ghost use Rattle.rasn_dynamic.specs.Parts.{IsHeaderOf};
 ghost use Rattle.rasn_dynamic.specs.Readers.{count_of, IsSizedAs, DecodesCounted, DecodesHeld, ReadsContents, ReadsType};
 ghost use Rattle.rasn_dynamic.specs.Nested.{ReadsPart, ReadsWithin};
 ghost use Rattle.rasn_dynamic.specs.Making.{Making, Counting, IsLength, outcome, reported, trees_of, these};
-ghost use Rattle.rasn_dynamic.specs.Typed.{HoldsOthers, MayRunOut, DecodesContents};
+ghost use Rattle.rasn_dynamic.specs.Typed.{HoldsOthers, IsSized, MayRunOut, DecodesContents};
 ghost use Rattle.rasn_dynamic.specs.Calls.{Gathers, any_required, is_required, IsMade, AreSettled, nones, names_of, IsAppended, DecodesPresent, DecodesMember, IsNoAlternative, IsNoMember};
 ghost use Rattle.rasn_schema.specs.Fitting.{Fits, IsChosen, AlternativeFits, ComponentFits, ComponentsFit, EachFits, AreOctets as AreOctetsValue};
 ghost use Rattle.rasn_dynamic.specs.Found.{FoundFit, MembersFit};
@@ -54,7 +54,7 @@ use rasn_schema::{
     tag_at,
 };
 use rasn_types::error::DecodeError;
-use rasn_types::types::Tag;
+use rasn_types::types::{Constraints, Tag};
 
 /// Moves a value to the end of a list, where values are kept.
 #[inline(always)]
@@ -100,6 +100,24 @@ fn keep<'input, M: Made>(
     take::<M>(decoder, error, value, values)
 }
 
+/// Returns an error if the number of elements isn't within the bound.
+#[inline(always)]
+fn check_bound(
+    decoder: &Decoder<'_>,
+    error: &mut DecodeError,
+    constraints: &Constraints,
+    count: usize,
+) -> Result<(), Refused>
+    ensures sized { IsSized constraints.now decoder.now count (reported result error.new) }
+    ensures rules { IfErr (reported result error.new) (λ e. e.codec ≡ decoder.now.rule) }
+{
+    if constraints.admits_size(count) {
+        return Ok(());
+    }
+    refuse_size(error, decoder, constraints, count);
+    Err(Refused)
+}
+
 /// Returns an error if the type bounds the number of elements, and this isn't within the bound.
 #[inline(always)]
 fn check_size(
@@ -111,16 +129,11 @@ fn check_size(
     ensures sized { IsSizedAs ty.now decoder.now count (reported result error.new) }
     ensures rules { IfErr (reported result error.new) (λ e. e.codec ≡ decoder.now.rule) }
 {
-    let constraints = match ty {
-        Type::SequenceOf { constraints, .. } => constraints,
-        Type::SetOf { constraints, .. } => constraints,
-        _ => return Ok(()),
-    };
-    if constraints.admits_size(count) {
-        return Ok(());
+    match ty {
+        Type::SequenceOf { constraints, .. } => check_bound(decoder, error, constraints, count),
+        Type::SetOf { constraints, .. } => check_bound(decoder, error, constraints, count),
+        _ => Ok(()),
     }
-    refuse_size(error, decoder, constraints, count);
-    Err(Refused)
 }
 
 /// Returns an empty list, with room for so many values where values are kept.

@@ -29,7 +29,7 @@ use Rattle.rasn_schema.proofs.Presences.{always_by}
 use Rattle.rasn_schema.proofs.TypeShapes.{shape_below}
 use Rattle.rasn_schema.proofs.Lists.{split, nothing_left, read_at}
 use Rattle.rasn_dynamic.specs.Inside.{DecodesTree, DecodesComponent}
-use Rattle.rasn_dynamic.specs.Making.{Making, outcome}
+use Rattle.rasn_dynamic.specs.Making.{Making, outcome, reported}
 use Rattle.rasn_dynamic.specs.Calls.{held, Gathers, names_of, nones, DecodesPresent}
 use Rattle.rasn_dynamic.proofs.Making.{made_as, made_fails_as, choice_exact, if_kept, one_made, choice_made, choice_fits}
 use Rattle.rasn_schema.specs.Fitting.{Fits, IsNumber, AreOctets, EachFits}
@@ -58,11 +58,11 @@ use Rattle.rasn_dynamic.proofs.Listed.{if_any, lists_start, lists_more, part_lis
 use Rattle.rasn_dynamic.proofs.reader.+decode.Goals as goal
 use Rattle.rasn_de.specs.Set.{not_read}
 use Rattle.rasn_de.proofs.Headers.Tags.{look_refused, look_follows}
-use Rattle.rasn_dynamic.specs.Faults.{IsFaultOf, IsFaultIn, IsOnly, IsAlternativeAt, StopsAtMember, StopsInSet, TellsOf}
+use Rattle.rasn_dynamic.specs.Faults.{octets_after, IsFaultOf, IsFaultIn, IsOnly, IsAlternativeAt, StopsAtMember, StopsInSet, TellsOf}
 use Rattle.rasn_dynamic.proofs.Faults.{any_err, if_err_map, unnamed, one_taken, turns_long, marked, stepped, further, weaker, entered, told_map, tells, tells_err, alternative_there, element_there, forgotten, one_part_more, part_there, member_there, member_behind, unknown_there, turns_keep, named, not_named, found_itself, present_stops, itself_choice, element_stops, set_element_stops, default_stops, unmade_stops, only_memory, taken_none, fails_missing}
 -- ---- the type with a number
 
-use Rattle.rasn_dynamic.specs.Readers.{DecodesHeld, count_of}
+use Rattle.rasn_dynamic.specs.Readers.{DecodesHeld, IsSizedAs, count_of}
 use Rattle.rasn_de.specs.Any.{BorrowsOpenType}
 use Rattle.rasn_de.specs.ValueErrors.{errors_of}
 use Rattle.rasn_dynamic.specs.Calls.{FailsAtNumber}
@@ -70,7 +70,7 @@ use Rattle.rasn_dynamic.specs.LeafErrors.{leaf_errors, unknown_errors, RunsOutOr
 use Rattle.rasn_dynamic.proofs.LeafErrors.{ends_somewhere}
 use Rattle.rasn_types.specs.Errors.{IsOutOfMemory}
 use Rattle.rasn_schema.specs.Fitting.{FitsBy, IsChosen, AlternativeFits}
-use Rattle.rasn_dynamic.proofs.Readers.{unopened, may_count, refused, may_close, unclosed, closed, tagged_contents, sequence_contents, set_contents, list_contents, set_of_contents, inside_held, holds_others, enclosed_refused, enclosed_read, leaf_read, components_refused, components_put, members_refused, members_put, elements_put, set_of_put}
+use Rattle.rasn_dynamic.proofs.Readers.{unopened, may_count, refused, may_close, unclosed, closed, tagged_contents, sequence_contents, set_contents, list_contents, set_of_contents, inside_held, count_is, holds_others, enclosed_refused, enclosed_read, leaf_read, components_refused, components_put, members_refused, members_put, elements_put, set_of_put}
 
 pub decode_at-returns-in_default-clause-reads : goal.decode_at-returns-in_default-clause-reads
 decode_at-returns-in_default-clause-reads g t c = elim c.in_default.ensures [
@@ -111,7 +111,7 @@ decode_at-returns-in-Err-clause-nothing g t c = found_here _ c.in-Some.ty.now c.
 pub decode_at-returns-in-Err-clause-told : goal.decode_at-returns-in-Err-clause-told
 decode_at-returns-in-Err-clause-told g t c =
     let unread : DecodesTree (shape_of_type c.args.types.now.list.now c.args.types.now.levels c.args.id.0) c.args.decoder.now (Err c.decode_type.new.walk.error) c.decode_type.new.decoder = rw (shape_below c.args.types.now.list.now c.args.types.now.levels c.args.id.0 (c.args.types.now.levels - 1) c.in-Some.ty.now (let n = c.in-Some.ensures.0 in omega arith) c.in-Some.ensures.1) c.in-Err.ensures.reads in
-    marked c.args.types.now.list.now c.args.types.now.levels c.args.id _ c.args.decoder.now _ _ _ (λ f s. entered c.args.types.now.list.now c.args.types.now.levels c.args.id.0 (c.args.types.now.levels - 1) c.in-Some.ty.now c.args.decoder.now (let n = c.in-Some.ensures.0 in omega arith) (sym c.in-Some.ensures.1) _ f (c.in-Err.ensures.told f s)) c.mark.ensures c.octets_left-left.ensures unread.exact
+    marked c.args.types.now.list.now c.args.types.now.levels c.args.id _ c.args.decoder.now _ _ _ (λ f s. entered c.args.types.now.list.now c.args.types.now.levels c.args.id.0 (c.args.types.now.levels - 1) c.in-Some.ty.now c.args.decoder.now (let n = c.in-Some.ensures.0 in omega arith) (sym c.in-Some.ensures.1) _ f (c.in-Err.ensures.told f s)) c.mark-in-Err.ensures c.octets_left-left.ensures unread.exact
     (found_itself c.args.types.now.list.now c.args.types.now.levels c.args.id.0 (c.args.types.now.levels - 1) c.in-Some.ty.now c.args.decoder.now _ (let n = c.in-Some.ensures.0 in omega arith) (sym c.in-Some.ensures.1) (Err c.decode_type.new.walk.error) c.in-Err.ensures.itself)
 
 -- ---- a type
@@ -166,12 +166,12 @@ decode_enclosed-returns-in-Err g t c =
 pub decode_enclosed-decode_inside-read-requires : goal.decode_enclosed-decode_inside-read-requires
 decode_enclosed-decode_inside-read-requires g t c = λ κs o. (search rules, (search rules, (c.requires.lawful, (holds_others c.args.ty.now c.args.header c.requires.header, (let n = seen_short c.args.decoder.now.rest c.in-Ok.opened.0.rest (length c.args.decoder.now.rest) _ (seen_inside c.args.header c.args.decoder.now c.open.ensures.octets c.in-Ok.opened.0 c.in-Ok.opened.1 c.open.new.self c.in-Ok.ensures.exact (length c.args.decoder.now.rest) (omega arith)) (omega arith) in omega (arith, n, c.requires.short), c.requires.clear)))))
 
-pub decode_enclosed-count_after-count-requires : goal.decode_enclosed-count_after-count-requires
-decode_enclosed-count_after-count-requires g t c = may_count c.args.types.now.list.now c.args.types.now.levels g.M.Made.KEEP c.args.ty.now (DecodesHeld (shape_of_type c.args.types.now.list.now c.args.types.now.levels) c.args.ty.now (count_of c.decode_inside-read.result)) c.args.header c.args.decoder.now c.open.ensures.octets c.args.walk.now.spans (inside_held (shape_of_type c.args.types.now.list.now c.args.types.now.levels) c.args.ty.now (count_of c.decode_inside-read.result)) c.in-Ok.opened.0 c.in-Ok.opened.1 c.open.new.self c.in-Ok.ensures.exact c.decode_inside-read.result c.decode_inside-read.new.out c.decode_inside-read.new.walk.error c.decode_inside-read.new.decoder c.decode_inside-read.new.walk.fault c.go_inside-after.new.spans c.decode_inside-read.new.walk.spans c.decode_inside-read.ensures _ refl c.requires.short
+pub decode_enclosed-count_after-requires : goal.decode_enclosed-count_after-requires
+decode_enclosed-count_after-requires g t c = may_count c.args.types.now.list.now c.args.types.now.levels g.M.Made.KEEP c.args.ty.now (DecodesHeld (shape_of_type c.args.types.now.list.now c.args.types.now.levels) c.args.ty.now (count_of c.decode_inside-read.result)) c.args.header c.args.decoder.now c.open.ensures.octets c.args.walk.now.spans (inside_held (shape_of_type c.args.types.now.list.now c.args.types.now.levels) c.args.ty.now (count_of c.decode_inside-read.result)) c.in-Ok.opened.0 c.in-Ok.opened.1 c.open.new.self c.in-Ok.ensures.exact c.decode_inside-read.result c.decode_inside-read.new.out c.decode_inside-read.new.walk.error c.decode_inside-read.new.decoder c.decode_inside-read.new.walk.fault c.go_inside-after.new.spans c.decode_inside-read.new.walk.spans c.decode_inside-read.ensures _ refl c.requires.short
 
 pub decode_enclosed-returns-in_err-count : goal.decode_enclosed-returns-in_err-count
 decode_enclosed-returns-in_err-count g t c = rw (residual _ c.from_residual.ensures.1)
-    (enclosed_refused c.args.types.now.list.now c.args.types.now.levels g.M.Made.KEEP c.args.decoder.now c.args.walk.now.spans c.open.new.self c.count_after-count.new.fault c.decode_inside-read.new.walk.spans c.args.ty.now c.args.header c.requires.header (count_of c.decode_inside-read.result) c.decode_inside-read.new.walk.error
+    (enclosed_refused c.args.types.now.list.now c.args.types.now.levels g.M.Made.KEEP c.args.decoder.now c.args.walk.now.spans c.open.new.self c.count_after.new.fault c.decode_inside-read.new.walk.spans c.args.ty.now c.args.header c.requires.header (count_of c.decode_inside-read.result) c.decode_inside-read.new.walk.error
     (refused c.args.types.now.list.now c.args.types.now.levels g.M.Made.KEEP c.args.ty.now (DecodesHeld (shape_of_type c.args.types.now.list.now c.args.types.now.levels) c.args.ty.now (count_of c.decode_inside-read.result)) c.args.header c.args.decoder.now c.open.ensures.octets c.args.walk.now.spans (inside_held (shape_of_type c.args.types.now.list.now c.args.types.now.levels) c.args.ty.now (count_of c.decode_inside-read.result)) c.in-Ok.opened.0 c.in-Ok.opened.1 c.open.new.self c.in-Ok.ensures.exact c.decode_inside-read.result c.decode_inside-read.new.out c.decode_inside-read.new.walk.error c.decode_inside-read.new.decoder c.decode_inside-read.new.walk.fault c.go_inside-after.new.spans c.decode_inside-read.new.walk.spans c.decode_inside-read.ensures _ _ _ c.in_err-count.ensures))
 
 pub decode_enclosed-close-requires : goal.decode_enclosed-close-requires
@@ -179,13 +179,14 @@ decode_enclosed-close-requires g t c = may_close c.args.types.now.list.now c.arg
 
 pub decode_enclosed-returns-in-Err-close : goal.decode_enclosed-returns-in-Err-close
 decode_enclosed-returns-in-Err-close g t c =
-    enclosed_refused c.args.types.now.list.now c.args.types.now.levels g.M.Made.KEEP c.args.decoder.now c.args.walk.now.spans c.close.new.self c.count_after-count.new.fault c.decode_inside-read.new.walk.spans c.args.ty.now c.args.header c.requires.header (count_of c.decode_inside-read.result) c.in-Err-close.error
-    (unclosed c.args.types.now.list.now c.args.types.now.levels g.M.Made.KEEP c.args.ty.now (DecodesHeld (shape_of_type c.args.types.now.list.now c.args.types.now.levels) c.args.ty.now (count_of c.decode_inside-read.result)) c.args.header c.args.decoder.now c.open.ensures.octets c.args.walk.now.spans (inside_held (shape_of_type c.args.types.now.list.now c.args.types.now.levels) c.args.ty.now (count_of c.decode_inside-read.result)) c.in-Ok.opened.0 c.in-Ok.opened.1 c.open.new.self c.in-Ok.ensures.exact c.decode_inside-read.result c.decode_inside-read.new.out c.decode_inside-read.new.walk.error c.decode_inside-read.new.decoder c.decode_inside-read.new.walk.fault c.go_inside-after.new.spans c.decode_inside-read.new.walk.spans c.decode_inside-read.ensures _ c.count_after-count.new.fault c.in_ok-count.ensures c.decode_inside-read.new.walk.spans c.remaining.result.now c.remaining.ensures.value c.close.new.self c.in-Err-close.error c.in-Err-close.ensures)
+    enclosed_refused c.args.types.now.list.now c.args.types.now.levels g.M.Made.KEEP c.args.decoder.now c.args.walk.now.spans c.close.new.self c.count_after.new.fault c.decode_inside-read.new.walk.spans c.args.ty.now c.args.header c.requires.header (count_of c.decode_inside-read.result) c.in-Err-close.error
+    (unclosed c.args.types.now.list.now c.args.types.now.levels g.M.Made.KEEP c.args.ty.now (DecodesHeld (shape_of_type c.args.types.now.list.now c.args.types.now.levels) c.args.ty.now (count_of c.decode_inside-read.result)) c.args.header c.args.decoder.now c.open.ensures.octets c.args.walk.now.spans (inside_held (shape_of_type c.args.types.now.list.now c.args.types.now.levels) c.args.ty.now (count_of c.decode_inside-read.result)) c.in-Ok.opened.0 c.in-Ok.opened.1 c.open.new.self c.in-Ok.ensures.exact c.decode_inside-read.result c.decode_inside-read.new.out c.decode_inside-read.new.walk.error c.decode_inside-read.new.decoder c.decode_inside-read.new.walk.fault c.go_inside-after.new.spans c.decode_inside-read.new.walk.spans c.decode_inside-read.ensures _ c.count_after.new.fault c.in_ok-count.ensures c.decode_inside-read.new.walk.spans c.remaining.result.now c.remaining.ensures.value c.close.new.self c.in-Err-close.error c.in-Err-close.ensures)
 
 pub decode_enclosed-returns : goal.decode_enclosed-returns
 decode_enclosed-returns g t c =
-    enclosed_read c.args.types.now.list.now c.args.types.now.levels g.M.Made.KEEP c.args.decoder.now c.args.walk.now.spans c.close.new.self c.count_after-count.new.fault c.go_outside.new.spans c.args.ty.now c.args.header c.requires.header (count_of c.decode_inside-read.result) c.decode_inside-read.new.out
-    (closed c.args.types.now.list.now c.args.types.now.levels g.M.Made.KEEP c.args.ty.now (DecodesHeld (shape_of_type c.args.types.now.list.now c.args.types.now.levels) c.args.ty.now (count_of c.decode_inside-read.result)) c.args.header c.args.decoder.now c.open.ensures.octets c.args.walk.now.spans (inside_held (shape_of_type c.args.types.now.list.now c.args.types.now.levels) c.args.ty.now (count_of c.decode_inside-read.result)) c.in-Ok.opened.0 c.in-Ok.opened.1 c.open.new.self c.in-Ok.ensures.exact c.decode_inside-read.result c.decode_inside-read.new.out c.decode_inside-read.new.walk.error c.decode_inside-read.new.decoder c.decode_inside-read.new.walk.fault c.go_inside-after.new.spans c.decode_inside-read.new.walk.spans c.decode_inside-read.ensures _ c.count_after-count.new.fault c.in_ok-count.ensures c.go_outside.new.spans c.remaining.result.now c.remaining.ensures.value c.close.new.self c.go_inside-after.result c.go_inside-after.ensures c.go_outside.ensures c.in-Ok-close.ensures) c.check_size.result c.check_size.new.error c.check_size.ensures.sized c.check_size.ensures.rules
+    enclosed_read c.args.types.now.list.now c.args.types.now.levels g.M.Made.KEEP c.args.decoder.now c.args.walk.now.spans c.close.new.self c.count_after.new.fault c.go_outside.new.spans c.args.ty.now c.args.header c.requires.header (count_of c.decode_inside-read.result) c.decode_inside-read.new.out
+    (closed c.args.types.now.list.now c.args.types.now.levels g.M.Made.KEEP c.args.ty.now (DecodesHeld (shape_of_type c.args.types.now.list.now c.args.types.now.levels) c.args.ty.now (count_of c.decode_inside-read.result)) c.args.header c.args.decoder.now c.open.ensures.octets c.args.walk.now.spans (inside_held (shape_of_type c.args.types.now.list.now c.args.types.now.levels) c.args.ty.now (count_of c.decode_inside-read.result)) c.in-Ok.opened.0 c.in-Ok.opened.1 c.open.new.self c.in-Ok.ensures.exact c.decode_inside-read.result c.decode_inside-read.new.out c.decode_inside-read.new.walk.error c.decode_inside-read.new.decoder c.decode_inside-read.new.walk.fault c.go_inside-after.new.spans c.decode_inside-read.new.walk.spans c.decode_inside-read.ensures _ c.count_after.new.fault c.in_ok-count.ensures c.go_outside.new.spans c.remaining.result.now c.remaining.ensures.value c.close.new.self c.go_inside-after.result c.go_inside-after.ensures c.go_outside.ensures c.in-Ok-close.ensures) c.check_size.result c.check_size.new.error
+    (subst (λ z. IsSizedAs c.args.ty.now c.close.new.self z (reported c.check_size.result c.check_size.new.error)) (count_is (octets_after c.decode_inside-read.new.decoder.closing (length c.open.new.self.rest)) c.decode_inside-read.result c.decode_inside-read.new.walk.fault c.in_ok-count.count c.count_after.new.fault c.in_ok-count.ensures) c.check_size.ensures.sized) c.check_size.ensures.rules
 
 -- ---- what is inside
 
@@ -1321,36 +1322,36 @@ put_components-returns g t c =
 pub put_elements-decode_elements-requires : goal.put_elements-decode_elements-requires
 put_elements-decode_elements-requires g t c = λ κs o. (search rules, (search rules, (c.requires.lawful, (c.new-values.ensures.items, (c.requires.short, c.requires.clear)))))
 
-pub put_elements-returns-in_err-decode_elements : goal.put_elements-returns-in_err-decode_elements
-put_elements-returns-in_err-decode_elements g t c = rw (residual _ c.from_residual.ensures.1) (record {
-  exact = c.in_err-decode_elements.ensures.reads;
+pub put_elements-returns-in_err-count : goal.put_elements-returns-in_err-count
+put_elements-returns-in_err-count g t c = rw (residual _ c.from_residual.ensures.1) (record {
+  exact = c.in_err-count.ensures.reads;
   fits = λ k. tt;
-  rules = c.in_err-decode_elements.ensures.rules;
-  told = c.in_err-decode_elements.ensures.told;
-  itself = c.in_err-decode_elements.ensures.itself;
+  rules = c.in_err-count.ensures.rules;
+  told = c.in_err-count.ensures.told;
+  itself = c.in_err-count.ensures.itself;
   listed = tt;
 })
 
 pub put_elements-returns : goal.put_elements-returns
 put_elements-returns g t c =
-    elements_put c.args.types.now.list.now c.args.types.now.levels g.M.Made.KEEP c.args.decoder.now c.args.walk.now.spans c.decode_elements.new.decoder c.decode_elements.new.walk.fault c.decode_elements.new.walk.spans c.args.element c.decode_elements.new.count c.decode_elements.new.values _ c.put_items.ensures c.in_ok-decode_elements.ensures.reads c.in_ok-decode_elements.ensures.fits c.in_ok-decode_elements.ensures.told c.in_ok-decode_elements.ensures.listed
+    elements_put c.args.types.now.list.now c.args.types.now.levels g.M.Made.KEEP c.args.decoder.now c.args.walk.now.spans c.decode_elements.new.decoder c.decode_elements.new.walk.fault c.decode_elements.new.walk.spans c.args.element c.in_ok-count.count c.decode_elements.new.values _ c.put_items.ensures c.in_ok-count.ensures.reads c.in_ok-count.ensures.fits c.in_ok-count.ensures.told c.in_ok-count.ensures.listed
 
 pub put_elements_in_order-decode_elements_in_order-requires : goal.put_elements_in_order-decode_elements_in_order-requires
 put_elements_in_order-decode_elements_in_order-requires g t c = λ κs o. (search rules, (search rules, (c.requires.lawful, (c.new-values.ensures.items, (c.requires.short, c.requires.clear)))))
 
-pub put_elements_in_order-returns-in_err-decode_elements_in_order : goal.put_elements_in_order-returns-in_err-decode_elements_in_order
-put_elements_in_order-returns-in_err-decode_elements_in_order g t c = rw (residual _ c.from_residual.ensures.1) (record {
-  exact = c.in_err-decode_elements_in_order.ensures.reads;
+pub put_elements_in_order-returns-in_err-count : goal.put_elements_in_order-returns-in_err-count
+put_elements_in_order-returns-in_err-count g t c = rw (residual _ c.from_residual.ensures.1) (record {
+  exact = c.in_err-count.ensures.reads;
   fits = λ k. tt;
-  rules = c.in_err-decode_elements_in_order.ensures.rules;
-  told = c.in_err-decode_elements_in_order.ensures.told;
-  itself = c.in_err-decode_elements_in_order.ensures.itself;
+  rules = c.in_err-count.ensures.rules;
+  told = c.in_err-count.ensures.told;
+  itself = c.in_err-count.ensures.itself;
   listed = tt;
 })
 
 pub put_elements_in_order-returns : goal.put_elements_in_order-returns
 put_elements_in_order-returns g t c =
-    set_of_put c.args.types.now.list.now c.args.types.now.levels g.M.Made.KEEP c.args.decoder.now c.args.walk.now.spans c.decode_elements_in_order.new.decoder c.decode_elements_in_order.new.walk.fault c.decode_elements_in_order.new.walk.spans c.args.element c.decode_elements_in_order.new.count c.decode_elements_in_order.new.values _ c.put_in_any_order.ensures c.in_ok-decode_elements_in_order.ensures.reads c.in_ok-decode_elements_in_order.ensures.fits c.in_ok-decode_elements_in_order.ensures.told c.in_ok-decode_elements_in_order.ensures.listed
+    set_of_put c.args.types.now.list.now c.args.types.now.levels g.M.Made.KEEP c.args.decoder.now c.args.walk.now.spans c.decode_elements_in_order.new.decoder c.decode_elements_in_order.new.walk.fault c.decode_elements_in_order.new.walk.spans c.args.element c.in_ok-count.count c.decode_elements_in_order.new.values _ c.put_in_any_order.ensures c.in_ok-count.ensures.reads c.in_ok-count.ensures.fits c.in_ok-count.ensures.told c.in_ok-count.ensures.listed
 
 -- put_set_components
 
