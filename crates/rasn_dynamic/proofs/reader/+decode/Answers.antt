@@ -34,7 +34,7 @@ use Rattle.rasn_dynamic.specs.Calls.{held, Gathers, names_of, nones, DecodesPres
 use Rattle.rasn_dynamic.proofs.Making.{made_as, made_fails_as, choice_exact, if_kept, one_made, choice_made, choice_fits}
 use Rattle.rasn_schema.specs.Fitting.{Fits, IsNumber, AreOctets, EachFits}
 use Rattle.rasn_dynamic.proofs.FitsRead.{if_ok, fits_below, each_more, fit_more, fit_end, made_fits, gathered_fit, all_fit, all_left_fit, nones_fit, found_length, found_kept, put_fits}
-use Rattle.rasn_dynamic.proofs.Nothing.{refused_at_zero, refused_not_there, found_here}
+use Rattle.rasn_dynamic.proofs.Nothing.{refused_at_zero, refused_not_there}
 use Rattle.rasn_dynamic.proofs.OpenChoice.{lawful_at}
 use Rattle.rasn_dynamic.proofs.ChoicesInside.{part_named}
 use Rattle.rasn_dynamic.proofs.Chosen.{no_tag, none_for, for_both, chosen_got, chosen_refused}
@@ -91,26 +91,26 @@ decode_at-returns-in_default-clause-told g t c =
     (λ n. fails_missing c.args.types.now.list.now c.args.types.now.levels c.args.id.0 c.args.decoder.now _ c.in_default.ensures c.refuse_no_value.ensures)
 
 pub decode_at-decode_type-requires : goal.decode_at-decode_type-requires
-decode_at-decode_type-requires g t c = λ κs o. (search rules, (search rules, (subst IsReadable (shape_below c.args.types.now.list.now c.args.types.now.levels c.args.id.0 (c.args.types.now.levels - 1) c.in-Some.ty.now (let n = c.in-Some.ensures.0 in omega arith) c.in-Some.ensures.1) c.requires.lawful, (omega (arith, c.octets_left-left.ensures, c.octets_left-left.type_inv), c.requires.clear))))
+decode_at-decode_type-requires g t c = λ κs o. (search rules, (search rules, (subst IsReadable (shape_below c.args.types.now.list.now c.args.types.now.levels (c.args.types.now.levels - 1) c.args.id.0 c.in-Some.ty.now (let n = c.in-Some.ensures.0 in omega arith) c.in-Some.ensures.1) c.requires.lawful, (omega (arith, c.octets_left-left.ensures, c.octets_left-left.type_inv), c.requires.clear))))
 
 pub decode_at-returns-in-Ok-clause-reads : goal.decode_at-returns-in-Ok-clause-reads
-decode_at-returns-in-Ok-clause-reads g t c = rw (shape_below c.args.types.now.list.now c.args.types.now.levels c.args.id.0 (c.args.types.now.levels - 1) c.in-Some.ty.now (let n = c.in-Some.ensures.0 in omega arith) c.in-Some.ensures.1) c.in-Ok.ensures.reads
+decode_at-returns-in-Ok-clause-reads g t c = rw (shape_below c.args.types.now.list.now c.args.types.now.levels (c.args.types.now.levels - 1) c.args.id.0 c.in-Some.ty.now (let n = c.in-Some.ensures.0 in omega arith) c.in-Some.ensures.1) c.in-Ok.ensures.reads
 
 pub decode_at-returns-in-Ok-clause-fits : goal.decode_at-returns-in-Ok-clause-fits
-decode_at-returns-in-Ok-clause-fits g t c = λ k. fits_below c.args.types.now.list.now c.args.types.now.levels c.args.id.0 (c.args.types.now.levels - 1) c.in-Some.ty.now _ (let n = c.in-Some.ensures.0 in omega arith) c.in-Some.ensures.1 (c.in-Ok.ensures.fits k)
+decode_at-returns-in-Ok-clause-fits g t c = λ k. fits_below c.args.types.now.list.now c.args.types.now.levels (c.args.types.now.levels - 1) c.args.id.0 c.in-Some.ty.now _ (let n = c.in-Some.ensures.0 in omega arith) c.in-Some.ensures.1 (c.in-Ok.ensures.fits k)
 
 pub decode_at-returns-in-Ok-clause-listed : goal.decode_at-returns-in-Ok-clause-listed
-decode_at-returns-in-Ok-clause-listed g t c = value_listed c.args.types.now.list.now c.args.types.now.levels c.args.id.0 (c.args.types.now.levels - 1) c.in-Some.ty.now c.args.decoder.now _ _ (let n = c.in-Some.ensures.0 in omega arith) (sym c.in-Some.ensures.1) c.in-Ok.ensures.listed
+decode_at-returns-in-Ok-clause-listed g t c = value_listed c.args.types.now.list.now c.args.types.now.levels (c.args.types.now.levels - 1) c.args.id.0 c.in-Some.ty.now c.args.decoder.now _ _ (let n = c.in-Some.ensures.0 in omega arith) (sym c.in-Some.ensures.1) c.in-Ok.ensures.listed
 
 pub decode_at-returns-in-Err-clause-reads : goal.decode_at-returns-in-Err-clause-reads
-decode_at-returns-in-Err-clause-reads g t c = rw (shape_below c.args.types.now.list.now c.args.types.now.levels c.args.id.0 (c.args.types.now.levels - 1) c.in-Some.ty.now (let n = c.in-Some.ensures.0 in omega arith) c.in-Some.ensures.1) c.in-Err.ensures.reads
+decode_at-returns-in-Err-clause-reads g t c = rw (shape_below c.args.types.now.list.now c.args.types.now.levels (c.args.types.now.levels - 1) c.args.id.0 c.in-Some.ty.now (let n = c.in-Some.ensures.0 in omega arith) c.in-Some.ensures.1) c.in-Err.ensures.reads
 
 pub decode_at-returns-in-Err-clause-nothing : goal.decode_at-returns-in-Err-clause-nothing
-decode_at-returns-in-Err-clause-nothing g t c = found_here _ c.in-Some.ty.now c.in-Some.ensures.1 _ (Err c.decode_type.new.walk.error)
+decode_at-returns-in-Err-clause-nothing g t c = λ h. let g : Some c.in-Some.ty.now ≡ None = c.in-Some.ensures.1 ∙ sym h in absurd cc
 
 pub decode_at-returns-in-Err-clause-told : goal.decode_at-returns-in-Err-clause-told
 decode_at-returns-in-Err-clause-told g t c =
-    let unread : DecodesTree (shape_of_type c.args.types.now.list.now c.args.types.now.levels c.args.id.0) c.args.decoder.now (Err c.decode_type.new.walk.error) c.decode_type.new.decoder = rw (shape_below c.args.types.now.list.now c.args.types.now.levels c.args.id.0 (c.args.types.now.levels - 1) c.in-Some.ty.now (let n = c.in-Some.ensures.0 in omega arith) c.in-Some.ensures.1) c.in-Err.ensures.reads in
+    let unread : DecodesTree (shape_of_type c.args.types.now.list.now c.args.types.now.levels c.args.id.0) c.args.decoder.now (Err c.decode_type.new.walk.error) c.decode_type.new.decoder = rw (shape_below c.args.types.now.list.now c.args.types.now.levels (c.args.types.now.levels - 1) c.args.id.0 c.in-Some.ty.now (let n = c.in-Some.ensures.0 in omega arith) c.in-Some.ensures.1) c.in-Err.ensures.reads in
     marked c.args.types.now.list.now c.args.types.now.levels c.args.id _ c.args.decoder.now _ _ _ (λ f s. entered c.args.types.now.list.now c.args.types.now.levels c.args.id.0 (c.args.types.now.levels - 1) c.in-Some.ty.now c.args.decoder.now (let n = c.in-Some.ensures.0 in omega arith) (sym c.in-Some.ensures.1) _ f (c.in-Err.ensures.told f s)) c.mark-in-Err.ensures c.octets_left-left.ensures unread.exact
     (found_itself c.args.types.now.list.now c.args.types.now.levels c.args.id.0 (c.args.types.now.levels - 1) c.in-Some.ty.now c.args.decoder.now _ (let n = c.in-Some.ensures.0 in omega arith) (sym c.in-Some.ensures.1) (Err c.decode_type.new.walk.error) c.in-Err.ensures.itself)
 
@@ -193,34 +193,34 @@ decode_enclosed-returns g t c =
 pub decode_inside-decode_part-requires : goal.decode_inside-decode_part-requires
 decode_inside-decode_part-requires g t c = λ κs o. (search rules, (search rules, (prefix_lawful _ _ (subst (λ n. IsReadable (type_by (shape_of_type c.args.types.now.list.now c.args.types.now.levels) n)) c.in-Tagged.is c.requires.lawful), c.requires.clear)))
 
-pub decode_inside-returns-in_err-decode_part : goal.decode_inside-returns-in_err-decode_part
-decode_inside-returns-in_err-decode_part g t c =
+pub decode_inside-returns-in_err-decode_part-in-Tagged : goal.decode_inside-returns-in_err-decode_part-in-Tagged
+decode_inside-returns-in_err-decode_part-in-Tagged g t c =
     rw (residual _ c.from_residual.ensures.1) (rw c.in-Tagged.is (tagged_contents c.args.types.now.list.now c.args.types.now.levels g.M.Made.KEEP c.args.decoder.now c.args.walk.now.spans (Err c.decode_part.new.walk.error) c.decode_part.new.decoder c.decode_part.new.walk.fault c.decode_part.new.walk.spans _ _ c.in_err-decode_part.ensures.reads (λ k. tt) c.in_err-decode_part.ensures.rules c.in_err-decode_part.ensures.told tt))
 
-pub decode_inside-returns-in_ok-decode_part : goal.decode_inside-returns-in_ok-decode_part
-decode_inside-returns-in_ok-decode_part g t c =
+pub decode_inside-returns-in_ok-decode_part-in-Tagged : goal.decode_inside-returns-in_ok-decode_part-in-Tagged
+decode_inside-returns-in_ok-decode_part-in-Tagged g t c =
     rw c.in-Tagged.is (tagged_contents c.args.types.now.list.now c.args.types.now.levels g.M.Made.KEEP c.args.decoder.now c.args.walk.now.spans (Ok c.decode_part.new.out) c.decode_part.new.decoder c.decode_part.new.walk.fault c.decode_part.new.walk.spans _ _ c.in_ok-decode_part.ensures.reads c.in_ok-decode_part.ensures.fits tt c.in_ok-decode_part.ensures.told c.in_ok-decode_part.ensures.listed)
 
 pub decode_inside-put_components-requires : goal.decode_inside-put_components-requires
 decode_inside-put_components-requires g t c = λ κs o. (search rules, (search rules, (lawful_parts (shape_of_type c.args.types.now.list.now c.args.types.now.levels) _ (seq_lawful _ _ (subst (λ n. IsReadable (type_by (shape_of_type c.args.types.now.list.now c.args.types.now.levels) n)) c.in-Sequence.is c.requires.lawful)), c.requires.clear)))
 
-pub decode_inside-returns-in_err-put_components : goal.decode_inside-returns-in_err-put_components
-decode_inside-returns-in_err-put_components g t c =
+pub decode_inside-returns-in_err-put_components-in-Sequence : goal.decode_inside-returns-in_err-put_components-in-Sequence
+decode_inside-returns-in_err-put_components-in-Sequence g t c =
     rw (residual _ c.from_residual-in_err-put_components.ensures.1) (rw c.in-Sequence.is (sequence_contents c.args.types.now.list.now c.args.types.now.levels g.M.Made.KEEP c.args.decoder.now c.args.walk.now.spans (Err c.put_components.new.walk.error) c.put_components.new.decoder c.put_components.new.walk.fault c.put_components.new.walk.spans _ _ c.in_err-put_components.ensures))
 
-pub decode_inside-returns-in_ok-put_components : goal.decode_inside-returns-in_ok-put_components
-decode_inside-returns-in_ok-put_components g t c =
+pub decode_inside-returns-in_ok-put_components-in-Sequence : goal.decode_inside-returns-in_ok-put_components-in-Sequence
+decode_inside-returns-in_ok-put_components-in-Sequence g t c =
     rw c.in-Sequence.is (sequence_contents c.args.types.now.list.now c.args.types.now.levels g.M.Made.KEEP c.args.decoder.now c.args.walk.now.spans (Ok c.put_components.new.out) c.put_components.new.decoder c.put_components.new.walk.fault c.put_components.new.walk.spans _ _ c.in_ok-put_components.ensures)
 
 pub decode_inside-put_set_components-requires : goal.decode_inside-put_set_components-requires
 decode_inside-put_set_components-requires g t c = λ κs o. (search rules, (search rules, (named_lawful (shape_of_type c.args.types.now.list.now c.args.types.now.levels) c.in-Set.tag c.in-Set.components.items _ refl (subst (λ n. IsReadable (type_by (shape_of_type c.args.types.now.list.now c.args.types.now.levels) n)) c.in-Set.is c.requires.lawful), c.requires.clear)))
 
-pub decode_inside-returns-in_err-put_set_components : goal.decode_inside-returns-in_err-put_set_components
-decode_inside-returns-in_err-put_set_components g t c =
+pub decode_inside-returns-in_err-put_set_components-in-Set : goal.decode_inside-returns-in_err-put_set_components-in-Set
+decode_inside-returns-in_err-put_set_components-in-Set g t c =
     rw (residual _ c.from_residual-in_err-put_set_components.ensures.1) (rw c.in-Set.is (set_contents c.args.types.now.list.now c.args.types.now.levels g.M.Made.KEEP c.args.decoder.now c.args.walk.now.spans (Err c.put_set_components.new.walk.error) c.put_set_components.new.decoder c.put_set_components.new.walk.fault c.put_set_components.new.walk.spans _ _ _ c.in_err-put_set_components.ensures))
 
-pub decode_inside-returns-in_ok-put_set_components : goal.decode_inside-returns-in_ok-put_set_components
-decode_inside-returns-in_ok-put_set_components g t c =
+pub decode_inside-returns-in_ok-put_set_components-in-Set : goal.decode_inside-returns-in_ok-put_set_components-in-Set
+decode_inside-returns-in_ok-put_set_components-in-Set g t c =
     rw c.in-Set.is (set_contents c.args.types.now.list.now c.args.types.now.levels g.M.Made.KEEP c.args.decoder.now c.args.walk.now.spans (Ok c.put_set_components.new.out) c.put_set_components.new.decoder c.put_set_components.new.walk.fault c.put_set_components.new.walk.spans _ _ _ c.in_ok-put_set_components.ensures)
 
 pub decode_inside-put_elements-requires : goal.decode_inside-put_elements-requires
@@ -265,7 +265,7 @@ decode_choice-decode_alternative-requires g t c =
     let el = get_or c.args.alternatives.now c.in-Some.number c.index-alternatives-number.result in
     let at : Some el ≡ slice_get c.args.alternatives.now c.in-Some.number = subst (λ (a : Alternative). Some a ≡ slice_get c.args.alternatives.now c.in-Some.number) c.index-alternatives-number.is
     (read_at c.args.alternatives.now c.in-Some.number c.index-alternatives-number.result (slice_get_within c.args.alternatives.now c.in-Some.number c.in-Some.ensures.0 (sym c.in-Some.ensures.1.0)) c.index-alternatives-number.is) in
-    λ κs o. (search rules, (search rules, (lawful_at (shape_of_type c.args.types.now.list.now c.args.types.now.levels) c.args.alternatives.now c.in-Some.number el c.requires.lawful at, (c.requires.clear, c.in_ok-tag.ensures.next))))
+    λ κs o. (search rules, (search rules, (lawful_at (shape_of_type c.args.types.now.list.now c.args.types.now.levels) c.args.alternatives.now c.in-Some.number el c.requires.1.1.1.0 at, (c.requires.1.1.1.1, c.in_ok-tag.ensures.next))))
 
 pub decode_choice-returns-in_err-decode_alternative-clause-reads : goal.decode_choice-returns-in_err-decode_alternative-clause-reads
 decode_choice-returns-in_err-decode_alternative-clause-reads g t c =
@@ -273,7 +273,7 @@ decode_choice-returns-in_err-decode_alternative-clause-reads g t c =
     let at : Some el ≡ slice_get c.args.alternatives.now c.in-Some.number = subst (λ (a : Alternative). Some a ≡ slice_get c.args.alternatives.now c.in-Some.number) c.index-alternatives-number.is
     (read_at c.args.alternatives.now c.in-Some.number c.index-alternatives-number.result (slice_get_within c.args.alternatives.now c.in-Some.number c.in-Some.ensures.0 (sym c.in-Some.ensures.1.0)) c.index-alternatives-number.is) in
     rw (residual _ c.from_residual-in_err-decode_alternative.ensures.1)
-    (chosen_refused (shape_of_type c.args.types.now.list.now c.args.types.now.levels) c.args.alternatives.now c.in-Some.number el c.in_ok-tag.tag c.requires.lawful
+    (chosen_refused (shape_of_type c.args.types.now.list.now c.args.types.now.levels) c.args.alternatives.now c.in-Some.number el c.in_ok-tag.tag c.requires.1.1.1.0
     (for_both (shape_of_type c.args.types.now.list.now c.args.types.now.levels) c.args.alternatives.now c.in-Some.number c.in-Some.ensures.0 _ c.in_ok-tag.tag c.in-Some.ensures.1 at) _ _ c.in_ok-tag.ensures.next _ c.in_err-decode_alternative.ensures.reads)
 
 pub decode_choice-returns-in_err-decode_alternative-clause-unknown : goal.decode_choice-returns-in_err-decode_alternative-clause-unknown
@@ -305,7 +305,7 @@ decode_choice-returns-clause-reads g t c =
     (read_at c.args.alternatives.now c.in-Some.number c.index-alternatives-number.result (slice_get_within c.args.alternatives.now c.in-Some.number c.in-Some.ensures.0 (sym c.in-Some.ensures.1.0)) c.index-alternatives-number.is) in
     let w = c.in_ok-decode_alternative.ensures.reads in
     choice_made _ c.in-Some.number c.decode_alternative.new.out (DecodesTree (choice_among (alternatives_by (shape_of_type c.args.types.now.list.now c.args.types.now.levels) c.args.alternatives.now))) c.args.decoder.now w.0 (outcome c.choose.result c.choose.new.out c.choose.new.error) _ w.1 c.choose.ensures.ok c.choose.ensures.kind
-    (chosen_got (shape_of_type c.args.types.now.list.now c.args.types.now.levels) c.args.alternatives.now c.in-Some.number el c.in_ok-tag.tag c.requires.lawful
+    (chosen_got (shape_of_type c.args.types.now.list.now c.args.types.now.levels) c.args.alternatives.now c.in-Some.number el c.in_ok-tag.tag c.requires.1.1.1.0
     (for_both (shape_of_type c.args.types.now.list.now c.args.types.now.levels) c.args.alternatives.now c.in-Some.number c.in-Some.ensures.0 _ c.in_ok-tag.tag c.in-Some.ensures.1 at) _ _ c.in_ok-tag.ensures.next w.0 w.2)
     (λ e m. alloc_failed _ (λ (z : Tree). z) c.args.decoder.now _ e m w.2.stays w.2.end)
 
@@ -620,7 +620,7 @@ decode_present-returns-then-not-is_strict-clause-told g t c = tells _ _ (λ k f 
 pub decode_present-returns-then-means_same-clause-reads : goal.decode_present-returns-then-means_same-clause-reads
 decode_present-returns-then-means_same-clause-reads g t c =
     let w = c.in_ok-decode_compared.ensures.reads in
-    default_is_written (key_of ((shape_of_type c.args.types.now.list.now c.args.types.now.levels) c.args.component.now.type_id.0)) ((shape_of_type c.args.types.now.list.now c.args.types.now.levels) c.args.component.now.type_id.0) c.args.component.now.presence c.in-Default.default.now c.in-Default.is _ _ w.0 w.2 c.if-not-is_strict.ensures (subst (λ z. Same z (tree_of c.in-Default.default.now)) (w.1 refl) (c.means_same.ensures.same c.if-means_same.true)) c.refuse_default.new.error c.refuse_default.ensures
+    default_is_written (key_of ((shape_of_type c.args.types.now.list.now c.args.types.now.levels) c.args.component.now.type_id.0)) ((shape_of_type c.args.types.now.list.now c.args.types.now.levels) c.args.component.now.type_id.0) c.args.component.now.presence c.in-Default.default c.in-Default.is _ _ w.0 w.2 c.if-not-is_strict.ensures (subst (λ z. Same z (tree_of c.in-Default.default)) (w.1 refl) (c.means_same.ensures.same c.if-means_same.true)) c.refuse_default.new.error c.refuse_default.ensures
 
 pub decode_present-returns-then-means_same-clause-rules : goal.decode_present-returns-then-means_same-clause-rules
 decode_present-returns-then-means_same-clause-rules g t c = codec_is c.refuse_default.ensures ∙ same_rules c.in_ok-decode_compared.ensures.reads.2.stays
@@ -628,7 +628,7 @@ decode_present-returns-then-means_same-clause-rules g t c = codec_is c.refuse_de
 pub decode_present-returns-clause-reads : goal.decode_present-returns-clause-reads
 decode_present-returns-clause-reads g t c =
     let w = c.in_ok-decode_compared.ensures.reads in
-    (w.0, (λ k. w.1 refl), differs (key_of ((shape_of_type c.args.types.now.list.now c.args.types.now.levels) c.args.component.now.type_id.0)) ((shape_of_type c.args.types.now.list.now c.args.types.now.levels) c.args.component.now.type_id.0) c.args.component.now.presence c.in-Default.default.now c.in-Default.is _ _ w.0 w.2 (λ s. let h = c.means_same.ensures.equal (subst (λ z. Same z (tree_of c.in-Default.default.now)) (sym (w.1 refl)) s) in let f = c.if-means_same.false in cc))
+    (w.0, (λ k. w.1 refl), differs (key_of ((shape_of_type c.args.types.now.list.now c.args.types.now.levels) c.args.component.now.type_id.0)) ((shape_of_type c.args.types.now.list.now c.args.types.now.levels) c.args.component.now.type_id.0) c.args.component.now.presence c.in-Default.default c.in-Default.is _ _ w.0 w.2 (λ s. let h = c.means_same.ensures.equal (subst (λ z. Same z (tree_of c.in-Default.default)) (sym (w.1 refl)) s) in let f = c.if-means_same.false in cc))
 
 pub decode_present-returns-clause-fits : goal.decode_present-returns-clause-fits
 decode_present-returns-clause-fits g t c = λ k. c.in_ok-decode_compared.ensures.fits
@@ -737,8 +737,8 @@ decode_components-returns-in_err-take-clause-rules g t c = rw (residual _ c.from
 
 -- ---- the components of a SET
 
-pub decode_set_components-loop-other_id-init : goal.decode_set_components-loop-other_id-init
-decode_set_components-loop-other_id-init g t c = (
+pub decode_set_components-loop-last-init : goal.decode_set_components-loop-last-init
+decode_set_components-loop-last-init g t c = (
   (
     held (nones c.args.members.now.components.now),
     [],
@@ -754,27 +754,27 @@ decode_set_components-loop-other_id-init g t c = (
   lists_start (λ b k. MemberListed (shape_of_type c.args.types.now.list.now c.args.types.now.levels) c.args.types.now.levels (Inside c.args.types.now.list.now c.args.types.now.levels) c.args.members.now.extensible c.args.members.now.components.now c.args.members.now.other_id.0 b) 0 c.args.decoder.now _ refl,
 )
 
-pub decode_set_components-loop-other_id-smaller : goal.decode_set_components-loop-other_id-smaller
-decode_set_components-loop-other_id-smaller g t c =
-    let i = c.loop-other_id.invariant.0 in
-    member_shorter _ c.args.members.now.extensible (components_by (shape_of_type c.args.types.now.list.now c.args.types.now.levels) c.args.members.now.components.now) (names_of c.args.members.now.components.now) c.loop-other_id.found.items c.decode_set_component.new.found.items c.loop-other_id.unknown.items c.decode_set_component.new.unknown.items i.0 i.1 c.loop-other_id.decoder _ _ i.2 i.3 c.in_ok-next.ensures.next
+pub decode_set_components-loop-last-smaller : goal.decode_set_components-loop-last-smaller
+decode_set_components-loop-last-smaller g t c =
+    let i = c.loop-last.invariant.0 in
+    member_shorter _ c.args.members.now.extensible (components_by (shape_of_type c.args.types.now.list.now c.args.types.now.levels) c.args.members.now.components.now) (names_of c.args.members.now.components.now) c.loop-last.found.items c.decode_set_component.new.found.items c.loop-last.unknown.items c.decode_set_component.new.unknown.items i.0 i.1 c.loop-last.decoder _ _ i.2 i.3 c.in_ok-next.ensures.next
 
 pub decode_set_components-returns-in_err-last-clause-exact : goal.decode_set_components-returns-in_err-last-clause-exact
 decode_set_components-returns-in_err-last-clause-exact g t c =
-    let at = c.loop-other_id in
-    rw (residual _ c.from_residual.ensures.1) (inl (untold c.args.members.now.extensible (components_by (shape_of_type c.args.types.now.list.now c.args.types.now.levels) c.args.members.now.components.now) (names_of c.args.members.now.components.now) c.args.decoder.now at.decoder at.last at.twice _ _ at.invariant.0.4 items c.loop-other_id-test.ensures _ c.in_err-last.ensures))
+    let at = c.loop-last in
+    rw (residual _ c.from_residual.ensures.1) (inl (untold c.args.members.now.extensible (components_by (shape_of_type c.args.types.now.list.now c.args.types.now.levels) c.args.members.now.components.now) (names_of c.args.members.now.components.now) c.args.decoder.now at.decoder at.last at.twice _ _ at.invariant.0.4 items c.loop-last-test.ensures _ c.in_err-last.ensures))
 
 pub decode_set_components-returns-in_err-next-clause-exact : goal.decode_set_components-returns-in_err-next-clause-exact
 decode_set_components-returns-in_err-next-clause-exact g t c =
-    let at = c.loop-other_id in
+    let at = c.loop-last in
     let i = at.invariant.0 in
     let w = c.in_err-next.ensures.next i.0 i.1 i.2 i.3 in
     rw (residual _ c.from_residual-in_err-next.ensures.1)
-    (inl (next_fails c.args.members.now.extensible (components_by (shape_of_type c.args.types.now.list.now c.args.types.now.levels) c.args.members.now.components.now) (names_of c.args.members.now.components.now) c.args.decoder.now at.decoder at.last at.twice _ _ i.4 items c.loop-other_id-test.ensures _ c.in_ok-last.ensures _ _ w.0 w.1 w.4))
+    (inl (next_fails c.args.members.now.extensible (components_by (shape_of_type c.args.types.now.list.now c.args.types.now.levels) c.args.members.now.components.now) (names_of c.args.members.now.components.now) c.args.decoder.now at.decoder at.last at.twice _ _ i.4 items c.loop-last-test.ensures _ c.in_ok-last.ensures _ _ w.0 w.1 w.4))
 
-pub decode_set_components-loop-other_id-preserved : goal.decode_set_components-loop-other_id-preserved
-decode_set_components-loop-other_id-preserved g t c =
-    let at = c.loop-other_id in
+pub decode_set_components-loop-last-preserved : goal.decode_set_components-loop-last-preserved
+decode_set_components-loop-last-preserved g t c =
+    let at = c.loop-last in
     let i = at.invariant.0 in
     let w = c.in_ok-next.ensures.next i.0 i.1 i.2 i.3 in (
       (
@@ -782,7 +782,7 @@ decode_set_components-loop-other_id-preserved g t c =
         w.1,
         w.2,
         w.3,
-        rw c.or-twice.ensures (next_passes c.args.members.now.extensible (components_by (shape_of_type c.args.types.now.list.now c.args.types.now.levels) c.args.members.now.components.now) (names_of c.args.members.now.components.now) c.args.decoder.now at.decoder at.last at.twice _ _ i.4 c.loop-other_id-test.ensures _ c.in_ok-last.ensures _ _ _ _ w.4),
+        rw c.or-twice.ensures (next_passes c.args.members.now.extensible (components_by (shape_of_type c.args.types.now.list.now c.args.types.now.levels) c.args.members.now.components.now) (names_of c.args.members.now.components.now) c.args.decoder.now at.decoder at.last at.twice _ _ i.4 c.loop-last-test.ensures _ c.in_ok-last.ensures _ _ _ _ w.4),
         none_unknown c.args.members.now.extensible (components_by (shape_of_type c.args.types.now.list.now c.args.types.now.levels) c.args.members.now.components.now) (names_of c.args.members.now.components.now) i.0 w.0 i.1 w.1 at.decoder _ _ w.4 i.5,
       ),
       c.in_ok-next.ensures.found,
@@ -794,32 +794,32 @@ decode_set_components-loop-other_id-preserved g t c =
 
 pub decode_set_components-returns-in-Some-clause-exact : goal.decode_set_components-returns-in-Some-clause-exact
 decode_set_components-returns-in-Some-clause-exact g t c =
-    let at = c.loop-other_id in
+    let at = c.loop-last in
     let i = at.invariant.0 in
     let ps = (components_by (shape_of_type c.args.types.now.list.now c.args.types.now.levels) c.args.members.now.components.now) in
     let names = names_of c.args.members.now.components.now in
     let h : at.twice ≡ Some c.in-Some.repeated = search rules in
-    inl (one_twice c.args.members.now.extensible ps names items c.args.decoder.now at.decoder at.last i.0 i.1 c.loop-other_id-test.ensures c.in-Some.repeated
+    inl (one_twice c.args.members.now.extensible ps names items c.args.decoder.now at.decoder at.last i.0 i.1 c.loop-last-test.ensures c.in-Some.repeated
     (subst (λ z. ReadTo c.args.members.now.extensible ps names c.args.decoder.now at.decoder at.last z i.0 i.1) h i.4) _
     (subst (λ z. IsNamedError (IsDuplicateField (text c.in-Some.repeated)) z c.duplicate_field.result) c.codec.ensures c.duplicate_field.ensures))
 
 pub decode_set_components-gather-requires : goal.decode_set_components-gather-requires
-decode_set_components-gather-requires g t c = found_length _ c.args.members.now.components.now _ c.loop-other_id.invariant.1
+decode_set_components-gather-requires g t c = found_length _ c.args.members.now.components.now _ c.loop-last.invariant.1
 
 pub decode_set_components-returns-in_err-values-clause-exact : goal.decode_set_components-returns-in_err-values-clause-exact
 decode_set_components-returns-in_err-values-clause-exact g t c =
-    let at = c.loop-other_id in
+    let at = c.loop-last in
     let i = at.invariant.0 in
     let ps = (components_by (shape_of_type c.args.types.now.list.now c.args.types.now.levels) c.args.members.now.components.now) in
     let names = names_of c.args.members.now.components.now in
     let h : at.twice ≡ None = search rules in
     rw (residual _ c.from_residual-in_err-values.ensures.1)
-    (members_lack c.args.members.now.extensible ps names c.args.decoder.now at.decoder at.last i.0 i.1 c.loop-other_id-test.ensures (subst (λ z. ReadTo c.args.members.now.extensible ps names c.args.decoder.now at.decoder at.last z i.0 i.1) h i.4) _
-    (lacks_part _ (shape_of_type c.args.types.now.list.now c.args.types.now.levels) c.args.members.now.components.now at.decoder.rule at.found.items i.0 _ i.2 (subst (λ z. Gathers g.M.Made.KEEP c.args.members.now.components.now c.loop-other_id.decoder.rule c.loop-other_id.found.items z) (sym c.in_err-values.ensures) c.gather.ensures.gathers)))
+    (members_lack c.args.members.now.extensible ps names c.args.decoder.now at.decoder at.last i.0 i.1 c.loop-last-test.ensures (subst (λ z. ReadTo c.args.members.now.extensible ps names c.args.decoder.now at.decoder at.last z i.0 i.1) h i.4) _
+    (lacks_part _ (shape_of_type c.args.types.now.list.now c.args.types.now.levels) c.args.members.now.components.now at.decoder.rule at.found.items i.0 _ i.2 (subst (λ z. Gathers g.M.Made.KEEP c.args.members.now.components.now c.loop-last.decoder.rule c.loop-last.found.items z) (sym c.in_err-values.ensures) c.gather.ensures.gathers)))
 
 pub decode_set_components-returns-in_err-take-clause-exact : goal.decode_set_components-returns-in_err-take-clause-exact
 decode_set_components-returns-in_err-take-clause-exact g t c =
-    let at = c.loop-other_id in
+    let at = c.loop-last in
     let i = at.invariant.0 in
     let ps = (components_by (shape_of_type c.args.types.now.list.now c.args.types.now.levels) c.args.members.now.components.now) in
     let names = names_of c.args.members.now.components.now in
@@ -829,61 +829,61 @@ decode_set_components-returns-in_err-take-clause-exact g t c =
 pub decode_set_components-returns-clause-exact : goal.decode_set_components-returns-clause-exact
 decode_set_components-returns-clause-exact g t c =
     let on : c.args.members.now.extensible ≡ true = search rules in
-    let at = c.loop-other_id in
+    let at = c.loop-last in
     let i = at.invariant.0 in
     let ps = components_by (shape_of_type c.args.types.now.list.now c.args.types.now.levels) c.args.members.now.components.now in
     let names = names_of c.args.members.now.components.now in
     let h : at.twice ≡ None = search rules in
-    let m = made_parts _ (shape_of_type c.args.types.now.list.now c.args.types.now.levels) c.args.members.now.components.now at.decoder.rule at.found.items i.0 c.in_ok-values.values (found_length _ c.args.members.now.components.now _ at.invariant.1) i.2 (subst (λ z. Gathers g.M.Made.KEEP c.args.members.now.components.now c.loop-other_id.decoder.rule c.loop-other_id.found.items z) (sym c.in_ok-values.ensures) c.gather.ensures.gathers) in (
+    let m = made_parts _ (shape_of_type c.args.types.now.list.now c.args.types.now.levels) c.args.members.now.components.now at.decoder.rule at.found.items i.0 c.in_ok-values.values (found_length _ c.args.members.now.components.now _ at.invariant.1) i.2 (subst (λ z. Gathers g.M.Made.KEEP c.args.members.now.components.now c.loop-last.decoder.rule c.loop-last.found.items z) (sym c.in_ok-values.ensures) c.gather.ensures.gathers) in (
       set_trees c.args.members.now.extensible m.0 i.1,
       all_trees c.args.members.now.extensible _ c.in_ok-values.values.items c.take.new.values.items m.0 i.1 at.unknown m.1 i.3 (λ e k. c.in_ok-take.ensures.ok k) (λ e. absurd (true≢false (sym on ∙ e))),
-      members_made c.args.members.now.extensible ps names c.args.decoder.now at.decoder at.last i.0 i.1 c.loop-other_id-test.ensures (subst (λ z. ReadTo c.args.members.now.extensible ps names c.args.decoder.now at.decoder at.last z i.0 i.1) h i.4) m.0 m.2 i.5,
+      members_made c.args.members.now.extensible ps names c.args.decoder.now at.decoder at.last i.0 i.1 c.loop-last-test.ensures (subst (λ z. ReadTo c.args.members.now.extensible ps names c.args.decoder.now at.decoder at.last z i.0 i.1) h i.4) m.0 m.2 i.5,
     )
 
-pub decode_set_components-returns-then-not-extensible-clause-exact : goal.decode_set_components-returns-then-not-extensible-clause-exact
-decode_set_components-returns-then-not-extensible-clause-exact g t c =
+pub decode_set_components-returns-then-not-members-clause-exact : goal.decode_set_components-returns-then-not-members-clause-exact
+decode_set_components-returns-then-not-members-clause-exact g t c =
     let off : c.args.members.now.extensible ≡ false = search rules in
-    let at = c.loop-other_id in
+    let at = c.loop-last in
     let i = at.invariant.0 in
     let ps = components_by (shape_of_type c.args.types.now.list.now c.args.types.now.levels) c.args.members.now.components.now in
     let names = names_of c.args.members.now.components.now in
     let h : at.twice ≡ None = search rules in
-    let m = made_parts _ (shape_of_type c.args.types.now.list.now c.args.types.now.levels) c.args.members.now.components.now at.decoder.rule at.found.items i.0 c.in_ok-values.values (found_length _ c.args.members.now.components.now _ at.invariant.1) i.2 (subst (λ z. Gathers g.M.Made.KEEP c.args.members.now.components.now c.loop-other_id.decoder.rule c.loop-other_id.found.items z) (sym c.in_ok-values.ensures) c.gather.ensures.gathers) in (
+    let m = made_parts _ (shape_of_type c.args.types.now.list.now c.args.types.now.levels) c.args.members.now.components.now at.decoder.rule at.found.items i.0 c.in_ok-values.values (found_length _ c.args.members.now.components.now _ at.invariant.1) i.2 (subst (λ z. Gathers g.M.Made.KEEP c.args.members.now.components.now c.loop-last.decoder.rule c.loop-last.found.items z) (sym c.in_ok-values.ensures) c.gather.ensures.gathers) in (
       set_trees c.args.members.now.extensible m.0 i.1,
       all_trees c.args.members.now.extensible _ c.in_ok-values.values.items c.in_ok-values.values.items m.0 i.1 at.unknown m.1 i.3 (λ e k. absurd (true≢false (sym e ∙ off))) (λ e. refl),
-      members_made c.args.members.now.extensible ps names c.args.decoder.now at.decoder at.last i.0 i.1 c.loop-other_id-test.ensures (subst (λ z. ReadTo c.args.members.now.extensible ps names c.args.decoder.now at.decoder at.last z i.0 i.1) h i.4) m.0 m.2 i.5,
+      members_made c.args.members.now.extensible ps names c.args.decoder.now at.decoder at.last i.0 i.1 c.loop-last-test.ensures (subst (λ z. ReadTo c.args.members.now.extensible ps names c.args.decoder.now at.decoder at.last z i.0 i.1) h i.4) m.0 m.2 i.5,
     )
 
 pub decode_set_components-returns-clause-fits : goal.decode_set_components-returns-clause-fits
 decode_set_components-returns-clause-fits g t c = λ k.
-    let at = c.loop-other_id in
+    let at = c.loop-last in
     let on : c.args.members.now.extensible ≡ true = search rules in
     all_fit (Fits c.args.types.now.list.now c.args.types.now.levels) c.args.members.now.extensible c.args.members.now.components.now c.in_ok-values.values.items c.take.new.values.items at.unknown
-    (gathered_fit (Fits c.args.types.now.list.now c.args.types.now.levels) g.M.Made.KEEP k c.args.members.now.components.now at.decoder.rule at.found.items (Ok c.in_ok-values.values) (found_kept g.M.Made.KEEP (Fits c.args.types.now.list.now c.args.types.now.levels) k c.args.members.now.components.now at.found.items at.invariant.1) (subst (λ z. Gathers g.M.Made.KEEP c.args.members.now.components.now c.loop-other_id.decoder.rule c.loop-other_id.found.items z) (sym c.in_ok-values.ensures) c.gather.ensures.gathers))
+    (gathered_fit (Fits c.args.types.now.list.now c.args.types.now.levels) g.M.Made.KEEP k c.args.members.now.components.now at.decoder.rule at.found.items (Ok c.in_ok-values.values) (found_kept g.M.Made.KEEP (Fits c.args.types.now.list.now c.args.types.now.levels) k c.args.members.now.components.now at.found.items at.invariant.1) (subst (λ z. Gathers g.M.Made.KEEP c.args.members.now.components.now c.loop-last.decoder.rule c.loop-last.found.items z) (sym c.in_ok-values.ensures) c.gather.ensures.gathers))
     (at.invariant.2 k) (λ e. c.in_ok-take.ensures.ok k) (λ e. absurd (true≢false (sym on ∙ e)))
 
-pub decode_set_components-returns-then-not-extensible-clause-fits : goal.decode_set_components-returns-then-not-extensible-clause-fits
-decode_set_components-returns-then-not-extensible-clause-fits g t c = λ k.
-    let at = c.loop-other_id in
+pub decode_set_components-returns-then-not-members-clause-fits : goal.decode_set_components-returns-then-not-members-clause-fits
+decode_set_components-returns-then-not-members-clause-fits g t c = λ k.
+    let at = c.loop-last in
     let off : c.args.members.now.extensible ≡ false = search rules in
     all_fit (Fits c.args.types.now.list.now c.args.types.now.levels) c.args.members.now.extensible c.args.members.now.components.now c.in_ok-values.values.items c.in_ok-values.values.items at.unknown
-    (gathered_fit (Fits c.args.types.now.list.now c.args.types.now.levels) g.M.Made.KEEP k c.args.members.now.components.now at.decoder.rule at.found.items (Ok c.in_ok-values.values) (found_kept g.M.Made.KEEP (Fits c.args.types.now.list.now c.args.types.now.levels) k c.args.members.now.components.now at.found.items at.invariant.1) (subst (λ z. Gathers g.M.Made.KEEP c.args.members.now.components.now c.loop-other_id.decoder.rule c.loop-other_id.found.items z) (sym c.in_ok-values.ensures) c.gather.ensures.gathers))
+    (gathered_fit (Fits c.args.types.now.list.now c.args.types.now.levels) g.M.Made.KEEP k c.args.members.now.components.now at.decoder.rule at.found.items (Ok c.in_ok-values.values) (found_kept g.M.Made.KEEP (Fits c.args.types.now.list.now c.args.types.now.levels) k c.args.members.now.components.now at.found.items at.invariant.1) (subst (λ z. Gathers g.M.Made.KEEP c.args.members.now.components.now c.loop-last.decoder.rule c.loop-last.found.items z) (sym c.in_ok-values.ensures) c.gather.ensures.gathers))
     (at.invariant.2 k) (λ e. absurd (true≢false (sym e ∙ off))) (λ e. refl)
 
 pub decode_set_components-returns-in_err-values-clause-rules : goal.decode_set_components-returns-in_err-values-clause-rules
-decode_set_components-returns-in_err-values-clause-rules g t c = rw (residual _ c.from_residual-in_err-values.ensures.1) ((subst (λ z. IfErr z (λ e. e.codec ≡ c.loop-other_id.decoder.rule)) (sym c.in_err-values.ensures) c.gather.ensures.rules) ∙ read_rules c.args.members.now.extensible (components_by (shape_of_type c.args.types.now.list.now c.args.types.now.levels) c.args.members.now.components.now) (names_of c.args.members.now.components.now) _ _ _ _ _ _ c.loop-other_id.invariant.0.4)
+decode_set_components-returns-in_err-values-clause-rules g t c = rw (residual _ c.from_residual-in_err-values.ensures.1) ((subst (λ z. IfErr z (λ e. e.codec ≡ c.loop-last.decoder.rule)) (sym c.in_err-values.ensures) c.gather.ensures.rules) ∙ read_rules c.args.members.now.extensible (components_by (shape_of_type c.args.types.now.list.now c.args.types.now.levels) c.args.members.now.components.now) (names_of c.args.members.now.components.now) _ _ _ _ _ _ c.loop-last.invariant.0.4)
 
 pub decode_set_components-returns-in_err-take-clause-rules : goal.decode_set_components-returns-in_err-take-clause-rules
-decode_set_components-returns-in_err-take-clause-rules g t c = rw (residual _ c.from_residual-in_err-take.ensures.1) (c.in_err-take.ensures.rules ∙ read_rules c.args.members.now.extensible (components_by (shape_of_type c.args.types.now.list.now c.args.types.now.levels) c.args.members.now.components.now) (names_of c.args.members.now.components.now) _ _ _ _ _ _ c.loop-other_id.invariant.0.4)
+decode_set_components-returns-in_err-take-clause-rules g t c = rw (residual _ c.from_residual-in_err-take.ensures.1) (c.in_err-take.ensures.rules ∙ read_rules c.args.members.now.extensible (components_by (shape_of_type c.args.types.now.list.now c.args.types.now.levels) c.args.members.now.components.now) (names_of c.args.members.now.components.now) _ _ _ _ _ _ c.loop-last.invariant.0.4)
 
 pub decode_set_components-returns-in_err-last-clause-rules : goal.decode_set_components-returns-in_err-last-clause-rules
-decode_set_components-returns-in_err-last-clause-rules g t c = rw (residual _ c.from_residual.ensures.1) (order_rules _ c.loop-other_id.decoder _ c.in_err-last.ensures ∙ read_rules c.args.members.now.extensible (components_by (shape_of_type c.args.types.now.list.now c.args.types.now.levels) c.args.members.now.components.now) (names_of c.args.members.now.components.now) _ _ _ _ _ _ c.loop-other_id.invariant.0.4)
+decode_set_components-returns-in_err-last-clause-rules g t c = rw (residual _ c.from_residual.ensures.1) (order_rules _ c.loop-last.decoder _ c.in_err-last.ensures ∙ read_rules c.args.members.now.extensible (components_by (shape_of_type c.args.types.now.list.now c.args.types.now.levels) c.args.members.now.components.now) (names_of c.args.members.now.components.now) _ _ _ _ _ _ c.loop-last.invariant.0.4)
 
 pub decode_set_components-returns-in_err-next-clause-rules : goal.decode_set_components-returns-in_err-next-clause-rules
-decode_set_components-returns-in_err-next-clause-rules g t c = rw (residual _ c.from_residual-in_err-next.ensures.1) (c.in_err-next.ensures.rules ∙ read_rules c.args.members.now.extensible (components_by (shape_of_type c.args.types.now.list.now c.args.types.now.levels) c.args.members.now.components.now) (names_of c.args.members.now.components.now) _ _ _ _ _ _ c.loop-other_id.invariant.0.4)
+decode_set_components-returns-in_err-next-clause-rules g t c = rw (residual _ c.from_residual-in_err-next.ensures.1) (c.in_err-next.ensures.rules ∙ read_rules c.args.members.now.extensible (components_by (shape_of_type c.args.types.now.list.now c.args.types.now.levels) c.args.members.now.components.now) (names_of c.args.members.now.components.now) _ _ _ _ _ _ c.loop-last.invariant.0.4)
 
 pub decode_set_components-returns-in-Some-clause-rules : goal.decode_set_components-returns-in-Some-clause-rules
-decode_set_components-returns-in-Some-clause-rules g t c = c.duplicate_field.ensures.0 ∙ c.codec.ensures ∙ read_rules c.args.members.now.extensible (components_by (shape_of_type c.args.types.now.list.now c.args.types.now.levels) c.args.members.now.components.now) (names_of c.args.members.now.components.now) _ _ _ _ _ _ c.loop-other_id.invariant.0.4
+decode_set_components-returns-in-Some-clause-rules g t c = c.duplicate_field.ensures.0 ∙ c.codec.ensures ∙ read_rules c.args.members.now.extensible (components_by (shape_of_type c.args.types.now.list.now c.args.types.now.levels) c.args.members.now.components.now) (names_of c.args.members.now.components.now) _ _ _ _ _ _ c.loop-last.invariant.0.4
 
 -- ---- one of them
 
@@ -891,8 +891,8 @@ pub decode_set_component-returns-in_err-tag-clause-next : goal.decode_set_compon
 decode_set_component-returns-in_err-tag-clause-next g t c =
     rw (residual _ c.from_residual.ensures.1) (member_unpeeked _ c.args.members.now.extensible (components_by (shape_of_type c.args.types.now.list.now c.args.types.now.levels) c.args.members.now.components.now) (names_of c.args.members.now.components.now) c.args.found.now.items c.args.unknown.now.items _ _ _ c.in_err-tag.ensures.exact refl)
 
-pub decode_set_component-returns-then-not-extensible-clause-next : goal.decode_set_component-returns-then-not-extensible-clause-next
-decode_set_component-returns-then-not-extensible-clause-next g t c =
+pub decode_set_component-returns-then-not-members-clause-next : goal.decode_set_component-returns-then-not-members-clause-next
+decode_set_component-returns-then-not-members-clause-next g t c =
     member_none _ c.args.members.now.extensible (components_by (shape_of_type c.args.types.now.list.now c.args.types.now.levels) c.args.members.now.components.now) (names_of c.args.members.now.components.now) c.args.found.now.items c.args.unknown.now.items _ _ c.in_ok-tag.tag c.in_ok-tag.ensures.next c.in_default.ensures (search rules) c.refuse_choice.new.error refl
 
 pub decode_set_component-returns-in_err-other-clause-next : goal.decode_set_component-returns-in_err-other-clause-next
@@ -1013,7 +1013,7 @@ decode_present-returns-in_err-decode_compared-clause-told g t c =
 
 pub decode_set_components-returns-in_err-next-clause-told : goal.decode_set_components-returns-in_err-next-clause-told
 decode_set_components-returns-in_err-next-clause-told g t c =
-    let at = c.loop-other_id in
+    let at = c.loop-last in
     let k = at.invariant.0.4 in
     let s = choice_by c.args.members.now.extensible (components_by (shape_of_type c.args.types.now.list.now c.args.types.now.levels) c.args.members.now.components.now) in
     let q = turns_keep s (λ (z : Tree). z) c.args.decoder.now k.0 at.decoder (forgotten (DecodesTree s) c.args.decoder.now k.0 k.1 at.decoder k.2) in
@@ -1153,11 +1153,11 @@ decode_present-returns-in_err-decode_compared-clause-itself g t c =
 pub decode_present-returns-then-means_same-clause-itself : goal.decode_present-returns-then-means_same-clause-itself
 decode_present-returns-then-means_same-clause-itself g t c =
     let w = c.in_ok-decode_compared.ensures.reads in
-    λ n. default_stops (shape_of_type c.args.types.now.list.now c.args.types.now.levels) c.args.component.now c.in-Default.default.now c.in-Default.is c.args.decoder.now _ w.0 w.2 c.if-not-is_strict.ensures (subst (λ z. Same z (tree_of c.in-Default.default.now)) (w.1 refl) (c.means_same.ensures.same c.if-means_same.true)) c.refuse_default.new.error c.refuse_default.ensures
+    λ n. default_stops (shape_of_type c.args.types.now.list.now c.args.types.now.levels) c.args.component.now c.in-Default.default c.in-Default.is c.args.decoder.now _ w.0 w.2 c.if-not-is_strict.ensures (subst (λ z. Same z (tree_of c.in-Default.default)) (w.1 refl) (c.means_same.ensures.same c.if-means_same.true)) c.refuse_default.new.error c.refuse_default.ensures
 
 pub decode_set_components-returns-in_err-last-clause-itself : goal.decode_set_components-returns-in_err-last-clause-itself
 decode_set_components-returns-in_err-last-clause-itself g t c =
-    let at = c.loop-other_id in
+    let at = c.loop-last in
     let k = at.invariant.0.4 in
     let stays = came_stays (choice_by c.args.members.now.extensible (components_by (shape_of_type c.args.types.now.list.now c.args.types.now.levels) c.args.members.now.components.now)) (λ (z : Tree). z) c.args.decoder.now at.decoder k.0 k.1 k.2 in
     rw (residual _ c.from_residual.ensures.1)
@@ -1165,7 +1165,7 @@ decode_set_components-returns-in_err-last-clause-itself g t c =
 
 pub decode_set_components-returns-in_err-next-clause-itself : goal.decode_set_components-returns-in_err-next-clause-itself
 decode_set_components-returns-in_err-next-clause-itself g t c =
-    let at = c.loop-other_id in
+    let at = c.loop-last in
     let k = at.invariant.0.4 in
     let stays = came_stays (choice_by c.args.members.now.extensible (components_by (shape_of_type c.args.types.now.list.now c.args.types.now.levels) c.args.members.now.components.now)) (λ (z : Tree). z) c.args.decoder.now at.decoder k.0 k.1 k.2 in
     rw (residual _ c.from_residual-in_err-next.ensures.1)
@@ -1173,26 +1173,26 @@ decode_set_components-returns-in_err-next-clause-itself g t c =
 
 pub decode_set_components-returns-in-Some-clause-itself : goal.decode_set_components-returns-in-Some-clause-itself
 decode_set_components-returns-in-Some-clause-itself g t c =
-    let at = c.loop-other_id in
+    let at = c.loop-last in
     let i = at.invariant.0 in
     let ps = components_by (shape_of_type c.args.types.now.list.now c.args.types.now.levels) c.args.members.now.components.now in
     let names = names_of c.args.members.now.components.now in
     let h : at.twice ≡ Some c.in-Some.repeated = search rules in
-    λ n. repeats_member (shape_of_type c.args.types.now.list.now c.args.types.now.levels) c.args.members.now.name.now c.args.members.now.extensible c.args.members.now.components.now c.args.decoder.now at.decoder at.last i.0 i.1 c.loop-other_id-test.ensures c.in-Some.repeated
+    λ n. repeats_member (shape_of_type c.args.types.now.list.now c.args.types.now.levels) c.args.members.now.name.now c.args.members.now.extensible c.args.members.now.components.now c.args.decoder.now at.decoder at.last i.0 i.1 c.loop-last-test.ensures c.in-Some.repeated
     (subst (λ z. ReadTo c.args.members.now.extensible ps names c.args.decoder.now at.decoder at.last z i.0 i.1) h i.4) _
     (subst (λ z. IsNamedError (IsDuplicateField (text c.in-Some.repeated)) z c.duplicate_field.result) c.codec.ensures c.duplicate_field.ensures)
 
 pub decode_set_components-returns-in_err-values-clause-itself : goal.decode_set_components-returns-in_err-values-clause-itself
 decode_set_components-returns-in_err-values-clause-itself g t c =
-    let at = c.loop-other_id in
+    let at = c.loop-last in
     let i = at.invariant.0 in
     let ps = components_by (shape_of_type c.args.types.now.list.now c.args.types.now.levels) c.args.members.now.components.now in
     let names = names_of c.args.members.now.components.now in
     let h : at.twice ≡ None = search rules in
     rw (residual _ c.from_residual-in_err-values.ensures.1)
-    (λ n. lacks_member (shape_of_type c.args.types.now.list.now c.args.types.now.levels) c.args.members.now.name.now c.args.members.now.extensible c.args.members.now.components.now c.args.decoder.now at.decoder at.last i.0 i.1 c.loop-other_id-test.ensures
+    (λ n. lacks_member (shape_of_type c.args.types.now.list.now c.args.types.now.levels) c.args.members.now.name.now c.args.members.now.extensible c.args.members.now.components.now c.args.decoder.now at.decoder at.last i.0 i.1 c.loop-last-test.ensures
     (subst (λ z. ReadTo c.args.members.now.extensible ps names c.args.decoder.now at.decoder at.last z i.0 i.1) h i.4) _
-    (lacks_part _ (shape_of_type c.args.types.now.list.now c.args.types.now.levels) c.args.members.now.components.now at.decoder.rule at.found.items i.0 _ i.2 (subst (λ z. Gathers g.M.Made.KEEP c.args.members.now.components.now c.loop-other_id.decoder.rule c.loop-other_id.found.items z) (sym c.in_err-values.ensures) c.gather.ensures.gathers)))
+    (lacks_part _ (shape_of_type c.args.types.now.list.now c.args.types.now.levels) c.args.members.now.components.now at.decoder.rule at.found.items i.0 _ i.2 (subst (λ z. Gathers g.M.Made.KEEP c.args.members.now.components.now c.loop-last.decoder.rule c.loop-last.found.items z) (sym c.in_err-values.ensures) c.gather.ensures.gathers)))
 
 pub decode_set_components-returns-in_err-take-clause-itself : goal.decode_set_components-returns-in_err-take-clause-itself
 decode_set_components-returns-in_err-take-clause-itself g t c =
@@ -1202,8 +1202,8 @@ pub decode_set_component-returns-in_err-tag-clause-itself : goal.decode_set_comp
 decode_set_component-returns-in_err-tag-clause-itself g t c =
     rw (residual _ c.from_residual.ensures.1) (λ n. inl c.in_err-tag.ensures.exact)
 
-pub decode_set_component-returns-then-not-extensible-clause-itself : goal.decode_set_component-returns-then-not-extensible-clause-itself
-decode_set_component-returns-then-not-extensible-clause-itself g t c =
+pub decode_set_component-returns-then-not-members-clause-itself : goal.decode_set_component-returns-then-not-members-clause-itself
+decode_set_component-returns-then-not-members-clause-itself g t c =
     λ n. inr (inl (((c.in_ok-tag.tag, c.in_ok-tag.ensures.next, c.in_default.ensures), c.refuse_choice.ensures), search rules))
 
 pub decode_set_component-returns-in_err-other-clause-itself : goal.decode_set_component-returns-in_err-other-clause-itself
@@ -1273,10 +1273,10 @@ decode_component-returns-in-Ok-false-clause-listed g t c =
     (c.if-is_always_there.ensures, subst (λ b. NextIs (sought_by (key_of s) s) c.args.decoder.now (Ok b)) h c.in-Ok-false.ensures))
 
 pub decode_set_components-returns-clause-listed : goal.decode_set_components-returns-clause-listed
-decode_set_components-returns-clause-listed g t c = members_listed (shape_of_type c.args.types.now.list.now c.args.types.now.levels) c.args.types.now.levels (Inside c.args.types.now.list.now c.args.types.now.levels) c.args.members.now.extensible c.args.members.now.components.now c.args.members.now.other_id.0 c.loop-other_id.invariant.4 c.args.decoder.now c.loop-other_id.decoder _ _ c.loop-other_id-test.ensures c.loop-other_id.invariant.5
+decode_set_components-returns-clause-listed g t c = members_listed (shape_of_type c.args.types.now.list.now c.args.types.now.levels) c.args.types.now.levels (Inside c.args.types.now.list.now c.args.types.now.levels) c.args.members.now.extensible c.args.members.now.components.now c.args.members.now.other_id.0 c.loop-last.invariant.4 c.args.decoder.now c.loop-last.decoder _ _ c.loop-last-test.ensures c.loop-last.invariant.5
 
-pub decode_set_components-returns-then-not-extensible-clause-listed : goal.decode_set_components-returns-then-not-extensible-clause-listed
-decode_set_components-returns-then-not-extensible-clause-listed g t c = members_listed (shape_of_type c.args.types.now.list.now c.args.types.now.levels) c.args.types.now.levels (Inside c.args.types.now.list.now c.args.types.now.levels) c.args.members.now.extensible c.args.members.now.components.now c.args.members.now.other_id.0 c.loop-other_id.invariant.4 c.args.decoder.now c.loop-other_id.decoder _ _ c.loop-other_id-test.ensures c.loop-other_id.invariant.5
+pub decode_set_components-returns-then-not-members-clause-listed : goal.decode_set_components-returns-then-not-members-clause-listed
+decode_set_components-returns-then-not-members-clause-listed g t c = members_listed (shape_of_type c.args.types.now.list.now c.args.types.now.levels) c.args.types.now.levels (Inside c.args.types.now.list.now c.args.types.now.levels) c.args.members.now.extensible c.args.members.now.components.now c.args.members.now.other_id.0 c.loop-last.invariant.4 c.args.decoder.now c.loop-last.decoder _ _ c.loop-last-test.ensures c.loop-last.invariant.5
 
 pub decode_set_component-returns-clause-listed : goal.decode_set_component-returns-clause-listed
 decode_set_component-returns-clause-listed g t c = member_listed (shape_of_type c.args.types.now.list.now c.args.types.now.levels) c.args.types.now.levels (Inside c.args.types.now.list.now c.args.types.now.levels) c.args.members.now.extensible c.args.members.now.components.now c.args.members.now.other_id.0 c.in-Some.number c.in-Some.component.now c.args.decoder.now _ _ _ c.in-Some.ensures.0 c.in_ok-decode_present.ensures.listed
