@@ -10,7 +10,7 @@ use Rattle.rasn_dynamic.specs.declared.span.Span.{Span}
 use Rattle.rasn_dynamic.specs.declared.refusal.Refusal.{Refusal}
 use Rattle.rasn_dynamic.specs.Faults.{IsLocated}
 use Rattle.rasn_dynamic.specs.Parts.{IsPartHeader}
-use Rattle.rasn_dynamic.specs.Walk.{ArePartsOf, depth_of}
+use Rattle.rasn_dynamic.specs.Walk.{ArePartsOf}
 use Rattle.rasn_c.specs.Schemas.{IsAsked, IsNotAsked}
 use Rattle.rasn_c.specs.Extents.{IsExtentOf}
 use Rattle.rasn_c.specs.Reasons.{IsStopOf, IsReported}
@@ -30,7 +30,7 @@ pub record IsRowOf (types : List «Type») (input : List ℕ) (e : Span) (r : Li
   pub offset : part.offset ≡ length input - e.left
   pub header : IsPartHeader e.octets.now part.header_len part.is_indefinite
   pub extent : IsExtentOf types part r.part
-  pub depth : r.depth ≡ depth_of e
+  pub depth : r.depth ≡ e.depth
   pub index : r.index ≡ e.index
 
 -- There is a row for each part, in their order.

@@ -139,7 +139,7 @@ fn listing_of(
     };
     'walk: while parts.next < parts.list.len() {
         let span = &parts.list[parts.next];
-        let (depth, index) = (usize::MAX - span.levels, span.index);
+        let (depth, index) = (span.depth, span.index);
         let Ok(Some(part)) = parts.next(alloc) else {
             return Err(AllocError);
         };

@@ -79,16 +79,16 @@ same_list a b e = cc
 -- One part of the list is ended.
 pub is_finished : (place : ℕ) (rest : List ℕ) (list : List Span) (x : Span) (before : Bor (List ℕ)) → x ≡ get_or list place x → IsCut x.octets.now rest before.now
     → (front : List Span) (e : Span) (more : List Span) → list ≡ front ++ e ∷ more → length front ≡ place
-    → (f : Span) × (slice_set list place (record { id = x.id; index = x.index; levels = x.levels; left = x.left; octets = before }) ≡ front ++ f ∷ more) × (f.id ≡ e.id) × (f.index ≡ e.index) × (f.levels ≡ e.levels) × (f.left ≡ e.left)
+    → (f : Span) × (slice_set list place (record { id = x.id; index = x.index; depth = x.depth; left = x.left; octets = before }) ≡ front ++ f ∷ more) × (f.id ≡ e.id) × (f.index ≡ e.index) × (f.depth ≡ e.depth) × (f.left ≡ e.left)
     × IsCut e.octets.now rest f.octets.now
 is_finished place rest list x before v h front e more is at =
-    let f : Span = record { id = x.id; index = x.index; levels = x.levels; left = x.left; octets = before } in
+    let f : Span = record { id = x.id; index = x.index; depth = x.depth; left = x.left; octets = before } in
     let y : x ≡ e = v ∙ ap (λ z. get_or z place x) is ∙ subst (λ k. get_or (front ++ e ∷ more) k x ≡ e) at (get_or-append_seam front e more x) in (
       f,
       ap (λ z. slice_set z place f) is ∙ subst (λ k. slice_set (front ++ e ∷ more) k f ≡ front ++ f ∷ more) at (set-append_seam front e more f),
       ap (λ (z : Span). z.id) y,
       ap (λ (z : Span). z.index) y,
-      ap (λ (z : Span). z.levels) y,
+      ap (λ (z : Span). z.depth) y,
       ap (λ (z : Span). z.left) y,
       subst (λ (z : Span). IsCut z.octets.now rest before.now) y h,
     )

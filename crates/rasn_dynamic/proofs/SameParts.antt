@@ -356,7 +356,7 @@ module _ (f : ℕ → Shape) (readable : (k : ℕ) → IsReadable (f k)) (levels
       let same : IsSamePart x.part y.part = record {
         id = x.id_is ∙ sym y.id_is;
         index = x.index ∙ sym y.index;
-        levels = x.deep ∙ sym y.deep;
+        depth = x.deep ∙ sym y.deep;
         left = x.left ∙ (ap (λ l. capped b (length l)) alike.rest ∙ sym y.left);
         octets = append_cancel_right x.part.octets.now y.part.octets.now n.rest o;
       } in
@@ -411,7 +411,7 @@ module _ (f : ℕ → Shape) (readable : (k : ℕ) → IsReadable (f k)) (levels
       let same : IsSamePart x.part y.part = record {
         id = x.id_is ∙ sym y.id_is;
         index = x.index ∙ sym y.index;
-        levels = x.deep ∙ sym y.deep;
+        depth = x.deep ∙ sym y.deep;
         left = x.left ∙ (ap (λ l. capped b (length l)) alike.rest ∙ sym y.left);
         octets = append_cancel_right x.part.octets.now y.part.octets.now n.rest o;
       } in

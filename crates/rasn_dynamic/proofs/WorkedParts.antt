@@ -198,7 +198,7 @@ worked_parts = record {
   no_component_without_a_path = no_path;
   contents_of_a_number = λ p e h i. between p (2 ∷ 1 ∷ []) (7 ∷ []) [] e h false i refl;
   not_without_the_last_octet = not_empty_here;
-  same_as_itself = λ e. record { id = refl; index = refl; levels = refl; left = refl; octets = refl };
+  same_as_itself = λ e. record { id = refl; index = refl; depth = refl; left = refl; octets = refl };
   not_of_another_type = λ a b p q h. let n = h.id in omega (arith, n, p, q);
   not_at_another_place = λ a b p q h. let n = h.left in omega (arith, n, p, q);
   unknown_values_alone = alone;

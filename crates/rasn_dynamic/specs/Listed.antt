@@ -25,6 +25,10 @@ use Rattle.rasn_dynamic.specs.Parts.{IsAbsentHere}
 abbrev pub capped : ℕ → ℕ → ℕ
 capped a b = min (a + b) (2 ^ 64 - 1)
 
+-- in how many others a part is, if types are followed so many levels deep from it
+abbrev pub depth_at : ℕ → ℕ
+depth_at levels = (2 ^ 64 - 1) - levels
+
 -- After such a header the contents are read in the state inner. If b octets of the message follow what is seen in the state s, c follow what is seen in this one.
 abbrev pub GoesInside : ConstructedHeader → ℕ → State → ℕ → State → Type 0
 GoesInside d b s c inner = (h : Header) × (constructed_header_at d s.rule s.depth s.rest ≡ Ok h) × (inner ≡ contents_state d s h) × (c ≡ capped b (octets_after inner.closing (length h.rest)))
@@ -53,7 +57,7 @@ pub record UnknownListed (levels id k b : ℕ) (s next : State) (es : List Span)
   pub is : es ≡ part ∷ []
   pub id_is : part.id.0 ≡ id
   pub index : part.index ≡ k
-  pub deep : part.levels ≡ levels
+  pub deep : part.depth ≡ depth_at levels
   pub left : part.left ≡ capped b (length s.rest)
   pub octets : s.rest ≡ part.octets.now ++ next.rest
 
@@ -66,7 +70,7 @@ module _ (f : ℕ → Shape) (levels : ℕ) (P : ℕ → ℕ → State → List 
     pub is : es ≡ part ∷ inside
     pub id_is : part.id.0 ≡ id
     pub index : part.index ≡ k
-    pub deep : part.levels ≡ levels
+    pub deep : part.depth ≡ depth_at levels
     pub left : part.left ≡ capped b (length s.rest)
     pub octets : s.rest ≡ part.octets.now ++ next.rest
     pub tree : Tree
@@ -153,7 +157,7 @@ HasRoom old new = (new.after ≡ old.after)
 abbrev pub IsNoted : TypeId → ℕ → ℕ → List ℕ → Spans → ℕ → Spans → Type 0
 IsNoted id k levels octets old place new = (new.after ≡ old.after)
     × ((m : Vec Span Global) → new.list ≡ Some m → (l : Vec Span Global) × (old.list ≡ Some l) × (place ≡ length l.items) × (e : Span) × (m.items ≡ l.items ++ e ∷ [])
-    × (e.id ≡ id) × (e.index ≡ k) × (e.levels ≡ levels) × (e.left ≡ capped old.after (length octets)) × (e.octets.now ≡ octets))
+    × (e.id ≡ id) × (e.index ≡ k) × (e.depth ≡ depth_at levels) × (e.left ≡ capped old.after (length octets)) × (e.octets.now ≡ octets))
 
 -- If the octets end with the rest, these are before it.
 abbrev pub IsCut : List ℕ → List ℕ → List ℕ → Type 0
@@ -164,7 +168,7 @@ abbrev pub IsFinished : ℕ → List ℕ → Spans → Spans → Type 0
 IsFinished place rest old new = (new.after ≡ old.after)
     × ((m : Vec Span Global) → new.list ≡ Some m → (l : Vec Span Global) × (old.list ≡ Some l)
     × ((front : List Span) (e : Span) (more : List Span) → l.items ≡ front ++ e ∷ more → length front ≡ place
-    → (f : Span) × (m.items ≡ front ++ f ∷ more) × (f.id ≡ e.id) × (f.index ≡ e.index) × (f.levels ≡ e.levels) × (f.left ≡ e.left) × IsCut e.octets.now rest f.octets.now))
+    → (f : Span) × (m.items ≡ front ++ f ∷ more) × (f.id ≡ e.id) × (f.index ≡ e.index) × (f.depth ≡ e.depth) × (f.left ≡ e.left) × IsCut e.octets.now rest f.octets.now))
 
 -- So many octets more follow what the decoder sees, where b did before.
 abbrev pub IsInside : ℕ → Spans → ℕ → Spans → Type 0

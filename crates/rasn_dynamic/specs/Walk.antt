@@ -25,17 +25,13 @@ pub record ArePartsOf (types : List «Type») (rule : Codec) (id : ℕ) (input :
   pub next : ps.next ≡ 0
   pub path : ps.path.items ≡ []
 
--- the number of values that a part is in
-abbrev pub depth_of : Span → ℕ
-depth_of e = (2 ^ 64 - 1) - e.levels
-
 abbrev pub path_at_depth : ℕ → List ℕ → ℕ → List ℕ
 path_at_depth zero path k = []
 path_at_depth (suc d) path k = take d path ++ k ∷ []
 
 -- the path of a part, after that of the part before it
 abbrev pub path_after : List ℕ → Span → List ℕ
-path_after path e = path_at_depth (depth_of e) path e.index
+path_after path e = path_at_depth e.depth path e.index
 
 -- The next part of the list, with its path; or there is none.
 abbrev pub IsNextOf : MessageParts → Option Part → MessageParts → Type 0

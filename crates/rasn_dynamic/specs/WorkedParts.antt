@@ -42,7 +42,7 @@ a_null = 5 ∷ 0 ∷ []
 
 -- A part with these octets, at the end of a message, of a type with the number 6.
 abbrev pub IsNullAtEnd : ℕ → Span → Type 0
-IsNullAtEnd k e = (e.id.0 ≡ 6) × (e.index ≡ k) × (e.levels ≡ 9) × (e.left ≡ 2) × (e.octets.now ≡ a_null)
+IsNullAtEnd k e = (e.id.0 ≡ 6) × (e.index ≡ k) × (e.depth ≡ 2 ^ 64 - 10) × (e.left ≡ 2) × (e.octets.now ≡ a_null)
 
 -- What is inside doesn't matter.
 abbrev pub anything_inside : ℕ → ℕ → State → List Span → Type 0

@@ -28,6 +28,7 @@ mod set;
 mod span;
 mod steps;
 mod trace;
+mod types;
 mod unfit;
 mod walk;
 mod write_leaf;

@@ -13,6 +13,7 @@ use crate::reader::decode_at;
 use crate::refusal::Refusal;
 use crate::span::{Spans, no_list};
 use crate::trace::{Fault, octets_left};
+use crate::types::Types;
 use crate::walk::new_walk;
 use rasn_de::ber::de::{Decoder, DecoderOptions};
 use rasn_schema::{Schema, TypeId, Value};
@@ -92,23 +93,19 @@ pub(crate) fn read_first<'input, M: Made>(
     ensures short { length input.now < 2 ^ 64 }
 {
     let mut decoder = Decoder::new(alloc, input, DecoderOptions::of(rule));
-    // The octets have a number of this type, so the places in them have too.
-    let _ = octets_left(&decoder);
+    let len = octets_left(&decoder);
     let mut walk = new_walk(rule, std::mem::replace(spans, no_list()));
     let mut value = Value::Absent;
-    match decode_at::<M>(
-        &mut decoder,
-        &mut walk,
-        schema.types(),
-        usize::MAX,
-        id,
-        &mut value,
-    ) {
+    let types = Types {
+        list: schema.types(),
+        levels: usize::MAX,
+    };
+    match decode_at::<M>(&mut decoder, &mut walk, &types, id, &mut value) {
         Ok(()) => {
             *spans = walk.spans;
             Ok((value, decoder.remaining()))
         }
-        Err(_) => Err(refusal_of(alloc, walk.error, walk.fault, id, input.len())),
+        Err(_) => Err(refusal_of(alloc, walk.error, walk.fault, id, len)),
     }
 }
 

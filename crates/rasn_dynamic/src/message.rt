@@ -118,9 +118,9 @@ impl<'input> MessageParts<'input> {
             return Ok(None);
         };
         let (id, index, octets) = (span.id, span.index, span.octets);
-        let (levels, left) = (span.levels, span.left);
+        let (depth, left) = (span.depth, span.left);
         let (header_len, is_indefinite) = part_header(alloc, octets)?;
-        if go_along(&mut self.path, usize::MAX - levels, index).is_err() {
+        if go_along(&mut self.path, depth, index).is_err() {
             return Err(DecodeError {
                 kind: DecodeErrorKind::OutOfMemory,
                 codec: Codec::Ber,

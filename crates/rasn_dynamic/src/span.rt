@@ -18,8 +18,8 @@ pub struct Span<'input> {
     pub id: TypeId,
     /// Its index in the value that holds it.
     pub index: usize,
-    /// How deep types are followed from it: in a part one less than in the value that holds it.
-    pub levels: usize,
+    /// In how many others it is: 0 for the message itself.
+    pub depth: usize,
     /// How many octets there are from its start to the end of the message.
     pub left: usize,
     /// All of its octets; while it is read, those from its start on.
@@ -95,8 +95,9 @@ fn make_room(spans: &mut Spans<'_>)
     }
 }
 
-/// Notes a part that is read next. Returns its place in the list. If memory runs out, there is no
-/// list from then on.
+/// Notes a part that is read next, from which types are followed `levels` deep: as deep as can be
+/// from the message, and one level less from each part inside. Returns its place in the list. If
+/// memory runs out, there is no list from then on.
 #[inline(always)]
 pub fn note<'input>(
     spans: &mut Spans<'input>,
@@ -116,7 +117,7 @@ pub fn note<'input>(
     list.push_reserved(Span {
         id,
         index,
-        levels,
+        depth: usize::MAX - levels,
         left,
         octets,
     });

@@ -60,20 +60,20 @@ pub fn kept<T>(outcome: Result<T, DecodeError>, error: &mut DecodeError) -> Resu
     }
 }
 
-/// Passes on whether contents were read. If they weren't, counts the octets after them, which their
+/// Passes on how many elements were read in contents. If the contents weren't read, counts the octets after them, which their
 /// decoder doesn't see, for the value inside that is named.
 #[inline(always)]
 pub fn count_after(
     decoder: &Decoder<'_>,
     inner: &Decoder<'_>,
     fault: &mut Option<Fault>,
-    read: Result<(), Refused>,
-) -> Result<(), Refused>
+    read: Result<usize, Refused>,
+) -> Result<usize, Refused>
     requires { (f : Fault) → fault.old ≡ Some f → f.left + octets_after inner.now.closing (length decoder.now.rest) < 2 ^ 64 }
     ensures { IsCounted (octets_after inner.now.closing (length decoder.now.rest)) read fault.old result fault.new }
 {
     match read {
-        Ok(()) => Ok(()),
+        Ok(count) => Ok(count),
         Err(refused) => {
             add_after(fault, octets_after(decoder, inner));
             Err(refused)

@@ -1,4 +1,4 @@
-use Rattle.std.proofs.Common.{◌≡◌, ◌∷◌, ◌++◌, [], ◌∙◌, Vec, refl, ap, subst, length}
+use Rattle.std.proofs.Common.{◌≡◌, ◌-◌, ◌∷◌, ◌++◌, [], ◌∙◌, Vec, refl, ap, subst, length}
 use Rattle.std.specs.Global.{Global}
 use Rattle.rasn_dynamic.specs.Listed.{capped}
 use Rattle.rasn_dynamic.specs.declared.span.Span.{Span}
@@ -9,7 +9,7 @@ pub returns : goal.returns
 returns c = (
   c.make_room.ensures.0,
   λ m q.
-      let e : Span = record { id = c.args.id; index = c.args.index; levels = c.args.levels; left = c.saturating_add-left.result; octets = c.args.octets } in
+      let e : Span = record { id = c.args.id; index = c.args.index; depth = 18446744073709551615 - c.args.levels; left = c.saturating_add-left.result; octets = c.args.octets } in
       let room = c.make_room.ensures.1 c.in-Some.list c.in-Some.is in (
         room.0,
         room.1,

@@ -1,7 +1,7 @@
 use Rattle.std.proofs.Common.{ap, Some}
 use Rattle.rasn_dynamic.proofs.Contents.{none_holds}
 use Rattle.rasn_dynamic.proofs.Parts.{no_header}
-use Rattle.rasn_dynamic.proofs.find.header_for.Goals as goal
+use Rattle.rasn_dynamic.proofs.reader.header_for.Goals as goal
 
 pub returns-in-Tagged : goal.returns-in-Tagged
 returns-in-Tagged c = rw c.in-Tagged.is (ap Some c.prefix.ensures)
