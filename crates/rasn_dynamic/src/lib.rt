@@ -41,7 +41,7 @@ pub use facts::{parts_determined, worked_faults, worked_parts, worked_places};
 pub use find::find_part;
 pub use leads_to::component_at;
 pub use locate::{check_or_locate, decode_or_locate};
-pub use message::{MessageParts, parts_of};
+pub use message::{ListedParts, MessageParts, open_parts_of, parts_of};
 pub use part::Part;
 pub use path::ValuePath;
 pub use path_text::steps_of;

@@ -15,7 +15,7 @@ use Rattle.rasn_dynamic.specs.declared.message.MessageParts.{MessageParts}
 use Rattle.rasn_dynamic.specs.declared.refusal.Refusal.{Refusal}
 use Rattle.rasn_dynamic.specs.Entry.{shape_of}
 use Rattle.rasn_dynamic.specs.Faults.{IsLocated}
-use Rattle.rasn_dynamic.specs.Walk.{ArePartsOf, path_after}
+use Rattle.rasn_dynamic.specs.Walk.{AreParts, ArePartsOf, path_after}
 use Rattle.rasn_lint.specs.declared.by_schema.LintError.{LintError}
 use Rattle.rasn_lint.specs.declared.by_schema.LintError.TheVariants.{Refused, Remainder, OutOfMemory}
 use Rattle.rasn_lint.specs.declared.by_schema.OpenTypes.{OpenTypes}
@@ -100,8 +100,7 @@ IsNoLint types id input OutOfMemory = Unit {0}
 -- What is looked into, if DER reads the message: the parts of that reading.
 abbrev pub AreLookedInto : OpenTypes → List «Type» → ℕ → List ℕ → (List Span → Type 0) → Type 0
 AreLookedInto Unexamined types id input P = Unit {0}
-AreLookedInto Examined types id input P =
-    (parts : MessageParts) × ArePartsOf types Der id input parts × P parts.list.items
+AreLookedInto Examined types id input P = (parts : List Span) × AreParts types Der id input [] parts × P parts
 
 -- The octets of the part's open type aren't well formed, and the departure is inside them; or the part is unknown values of
 -- which one isn't.
