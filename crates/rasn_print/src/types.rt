@@ -4,7 +4,7 @@ ghost use Rattle.rasn_types.specs.declared.types.codec.Codec.{Codec};
 
 use crate::messages::rules_of;
 use rasn_compiler::Root;
-use rasn_schema::{Schema, Type, TypeId, part_name, part_type, type_at};
+use rasn_schema::{Schema, Type, TypeId};
 use rasn_types::types::Codec;
 use std::alloc::{AllocError, Global};
 
@@ -78,54 +78,11 @@ impl<'a> MessageType<'a> {
 
 /// Returns whether an open type or unknown values are among what a type is made of.
 fn holds_open(alloc: Global, schema: &Schema, root: TypeId) -> Result<bool, AllocError> {
-    let types = schema.types();
-    let mut is_known = vec![in alloc; false; types.len()]?;
-    let mut list = Vec::new(alloc);
-    add_type(&mut is_known, &mut list, root)?;
-    // Each type is in the list once.
-    for next in 0..types.len() {
-        let Some(id) = list.get(next).copied() else {
-            break;
-        };
-        match type_at(types, id) {
-            Some(Type::Any { .. } | Type::Unknown) => return Ok(true),
-            Some(ty) => add_parts(&mut is_known, &mut list, ty)?,
-            None => {}
+    let is_reached = schema.reached_from(alloc, &[root])?;
+    for (ty, is_reached) in schema.types().iter().zip(is_reached.as_slice()) {
+        if *is_reached && matches!(ty, Type::Any { .. } | Type::Unknown) {
+            return Ok(true);
         }
     }
     Ok(false)
-}
-
-/// Adds the types of the parts of a type, unless they are known.
-fn add_parts(
-    is_known: &mut Vec<bool>,
-    list: &mut Vec<TypeId>,
-    ty: &Type,
-) -> Result<(), AllocError> {
-    for index in 0..usize::MAX {
-        let Some(id) = part_type(ty, index) else {
-            break;
-        };
-        add_type(is_known, list, id)?;
-        // What a list or an explicit tag holds has no name, and is the same for each index.
-        if part_name(ty, index).is_none() {
-            break;
-        }
-    }
-    Ok(())
-}
-
-/// Adds a type, unless it is known.
-fn add_type(
-    is_known: &mut Vec<bool>,
-    list: &mut Vec<TypeId>,
-    id: TypeId,
-) -> Result<(), AllocError> {
-    if let Some(is_known) = is_known.get_mut(id.0) {
-        if !*is_known {
-            *is_known = true;
-            list.push(id)?;
-        }
-    }
-    Ok(())
 }
