@@ -20,7 +20,7 @@ use Rattle.rasn_c.specs.Schemas.{IsAsked}
 use Rattle.rasn_c.specs.Reasons.{IsStopBy}
 use Rattle.rasn_c.specs.Listing.{IsRowOf, AreRows, IsNoListingBy}
 use Rattle.rasn_c.specs.declared.listing.ListedPart.{ListedPart}
-use Rattle.rasn_c.specs.declared.reasons.Stop.{Stop}
+use Rattle.rasn_c.specs.declared.reasons.CallStop.{CallStop}
 use Rattle.rasn_c.specs.declared.status.Status.{Status}
 use Rattle.rasn_c.specs.declared.status.Status.TheVariants.{Ok, Refused, OutOfMemory, BufferTooSmall, UnknownType, UnknownRule, BadSchema, UnknownPath, Absent}
 
@@ -62,7 +62,7 @@ unfolding AreRows
 all_rows types input list rows i h c = subst (AreRows types input list) (append-nil rows) (c [] (subst (λ z. AreRows types input z []) (sym (drop_all i list h)) tt))
 
 -- A message whose parts aren't listed.
-pub unlisted : (octets : List ℕ) (number : ℕ) (message : List ℕ) (stop : Stop) (schema : Schema) (root : TypeId) (rule : Codec) (refusal : Refusal) → IsAsked octets number schema root rule
+pub unlisted : (octets : List ℕ) (number : ℕ) (message : List ℕ) (stop : CallStop) (schema : Schema) (root : TypeId) (rule : Codec) (refusal : Refusal) → IsAsked octets number schema root rule
     → IsOutOfMemory refusal.error.kind ⊎ IsLocated schema.types.items rule root.0 message refusal → (status : Status) → stop.status ≡ status → IsStopBy schema root [] refusal stop status → IsNoListingBy octets number message stop status
 unlisted octets number message stop schema root rule refusal a l Refused e h = record {
   schema = schema;
