@@ -6,6 +6,7 @@ mod cut;
 mod entry;
 mod kinds;
 mod lists;
+mod messages;
 mod octets;
 mod reading;
 mod row;
