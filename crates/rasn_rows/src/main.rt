@@ -1,6 +1,7 @@
 //! Reads and writes the values of the rows of standard input, and prints each row with its result.
 #![tactic(auto)]
 
+mod address_book;
 mod calls;
 mod cut;
 mod entry;

@@ -1,8 +1,9 @@
 //! Messages of protocols and their parts: certificates (RFC 5280), requests for them (RFC 2986),
 //! signed messages (RFC 5652), messages of SNMP (RFC 3416, 3412) and LDAP (RFC 4511).
 
+use crate::address_book::of_book;
 use crate::entry::decoded;
-use crate::kinds::{both, named, unknown};
+use crate::kinds::{both, named};
 use crate::reading::{refused, shown, told};
 use crate::row::{Row, Verb};
 use crate::writing::written;
@@ -60,7 +61,7 @@ fn of_named(alloc: Global, row: &Row<'_>) -> Result<String, AllocError> {
         "ldap-scope" => named::<SearchRequestScopeName>(alloc, row),
         "ldap-aliases" => named::<SearchRequestDerefAliasesName>(alloc, row),
         "ldap-change" => named::<ChangeOperationName>(alloc, row),
-        _ => unknown(alloc),
+        _ => of_book(alloc, row),
     }
 }
 
