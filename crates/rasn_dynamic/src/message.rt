@@ -68,6 +68,7 @@ pub fn parts_of<'input>(
 ) -> Result<MessageParts<'input>, Refusal>
     ensures parts { IfOk result (ArePartsOf schema.now.types.items rule id.0 input.now) }
     ensures located { IfErr result (λ r. IsOutOfMemory r.error.kind ⊎ IsLocated schema.now.types.items rule id.0 input.now r) }
+    ensures exact { IfErr result (λ r. IsOutOfMemory r.error.kind ⊎ IsCheckedUpTo rule (shape_of schema.now.types.items id.0) input.now (Err r.error)) }
     ensures rules { IfErr result (λ r. r.error.codec ≡ rule) }
 {
     let spans = new_list(alloc, input.len());

@@ -2,7 +2,10 @@
 
 use crate::faults::TYPES;
 use crate::types::made;
-use rasn_dynamic::{MessageParts, Part, Step, component_at, find_part, parts_of, path_named};
+use rasn_dynamic::{
+    ListedParts, MessageParts, Part, Step, component_at, find_part, open_parts_of, parts_of,
+    path_named,
+};
 use rasn_schema::{Schema, TypeId};
 use rasn_types::types::Codec;
 use std::alloc::Global;
@@ -221,6 +224,51 @@ fn unknown_components_are_parts(rt: HostRuntime) {
 const TAGGED: &[u8] = &[0xA0, 3, 2, 1, 7];
 
 const CHOSEN_PAIR: &[u8] = &[0x30, 6, 1, 1, 0xFF, 2, 1, 7];
+
+/// Of an open or unknown value: how many octets there are from its start on, its type, its length.
+type Open = (usize, usize, usize);
+
+fn is_open_list(parts: &ListedParts<'_>, expected: &[Open], rest: &[u8]) -> bool {
+    for (part, (left, id, len)) in parts.list.iter().zip(expected) {
+        if part.left != *left || part.id != TypeId(*id) || part.octets.len() != *len {
+            return false;
+        }
+    }
+    parts.list.len() == expected.len() && parts.rest == rest
+}
+
+fn assert_open(
+    rt: &impl Abort,
+    alloc: Global,
+    schema: &Schema,
+    id: usize,
+    octets: &[u8],
+    expected: &[Open],
+    rest: &[u8],
+) {
+    match open_parts_of(alloc, Codec::Ber, schema, TypeId(id), octets) {
+        Ok(parts) => assert!(rt; is_open_list(&parts, expected, rest)),
+        Err(_) => assert!(rt; false, "{octets:?}"),
+    }
+}
+
+// The octets are counted by hand.
+#[test]
+fn open_values_are_listed_alone(rt: HostRuntime) {
+    let schema = made(&rt, rt.alloc(), TYPES);
+    assert_open(
+        &rt,
+        rt.alloc(),
+        &schema,
+        8,
+        MIXED,
+        &[(11, 6, 2), (6, 6, 3)],
+        &[],
+    );
+    assert_open(&rt, rt.alloc(), &schema, 7, EXTENDED, &[(5, 6, 5)], &[]);
+    assert_open(&rt, rt.alloc(), &schema, 3, LIST, &[], &[]);
+    assert_open(&rt, rt.alloc(), &schema, 0, &[1, 1, 0, 5, 0], &[], &[5, 0]);
+}
 
 // X.690 8.13: each of CHOICEs in one another is a part, with all of the octets.
 #[test]
