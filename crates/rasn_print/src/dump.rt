@@ -195,11 +195,24 @@ pub(crate) fn deeper_at(
 
 /// Returns whether an encoding ends where these octets begin: with end-of-contents octets if its
 /// length is indefinite (X.690 8.1.5), otherwise where no octets remain.
-fn is_ended(rest: &[u8], is_indefinite: bool) -> bool {
+pub(crate) fn is_ended(rest: &[u8], is_indefinite: bool) -> bool {
     if is_indefinite {
         rest.starts_with(&[0, 0])
     } else {
         rest.is_empty()
+    }
+}
+
+/// Returns the whole encoding with which octets begin, or all of them without one, and what follows
+/// it.
+pub(crate) fn first_encoding(alloc: Global, octets: &[u8]) -> (&[u8], &[u8]) {
+    let mut decoder = Decoder::new(alloc, octets, DecoderOptions::of(Codec::Ber));
+    match decoder.skip_value() {
+        Ok(_) => {
+            let end = octets.len().saturating_sub(decoder.remaining().len());
+            octets.split_at_checked(end).unwrap_or((octets, &[]))
+        }
+        Err(_) => (octets, &[]),
     }
 }
 

@@ -1,17 +1,23 @@
 //! Values as indented lines with the names of a schema.
 
+pub(crate) mod large;
+
 use crate::dump::{End, Entries, Entry, primitive_text, push_entry, push_indent};
 use crate::identifiers::{identifier_name, identifier_text};
 use crate::known::{Form, Known};
 use crate::leaf::leaf_text;
 use crate::name::name_text;
 use crate::refusal_text::text_of;
+use crate::fault::Fault;
 use crate::types::MessageType;
+use crate::work::Shown;
+use large::{Lines, write_message};
 use rasn_dynamic::decode;
 use rasn_schema::{LeafKind, Schema, Type, TypeId, Value, View, part_name, part_type, type_at};
-use rasn_types::types::{Codec, Hexadecimal};
+use rasn_types::types::{Codec, Hexadecimal, ObjectIdentifier};
 use std::alloc::{AllocError, Global};
 use std::fmt;
+use std::io::Write;
 use std::net::{Ipv4Addr, Ipv6Addr};
 
 /// How many values may be in one another, those in open types among them. A CHOICE and what is in an
@@ -39,6 +45,21 @@ struct Place<'a> {
     hint: Option<&'static str>,
 }
 
+impl<'a> Place<'a> {
+    /// Returns where a message with this title is printed.
+    fn of(alloc: Global, known: &'a Known<'a>, rule: Codec, title: &'a str) -> Place<'a> {
+        Place {
+            alloc,
+            known,
+            rule,
+            levels: LEVELS,
+            depth: 0,
+            title,
+            hint: None,
+        }
+    }
+}
+
 /// Whether there was memory for what is appended.
 type Appended = Result<(), AllocError>;
 
@@ -52,18 +73,25 @@ pub fn value_text(
     wanted: &MessageType<'_>,
     value: &Value<'_>,
 ) -> Result<String, AllocError> {
-    let place = Place {
-        alloc,
-        known,
-        rule: wanted.rule,
-        levels: LEVELS,
-        depth: 0,
-        title: wanted.name,
-        hint: None,
-    };
+    let place = Place::of(alloc, known, wanted.rule, wanted.name);
     let mut text = String::new(alloc);
     print(&mut text, place, &wanted.schema.view(wanted.root, value))?;
     Ok(text)
+}
+
+/// Writes the value of this type that octets encode as the same lines, as soon as there are some.
+///
+/// # Errors
+/// `Write` or `Closed` if they can't be written, `Memory` if memory runs out.
+pub(crate) fn write_large<W: Write + Drop>(
+    lines: &mut Lines<'_, W>,
+    alloc: Global,
+    known: &Known<'_>,
+    shown: &Shown,
+    octets: &[u8],
+) -> Result<(), Fault> {
+    let place = Place::of(alloc, known, shown.rule, shown.name.as_str());
+    write_message(lines, place, &known.schema, shown.root, octets)
 }
 
 /// Returns a value in a line, if it is one that holds no others, a name or an address: text as it is,
@@ -77,15 +105,7 @@ pub(crate) fn line_text(
     title: &str,
     view: &View<'_, '_>,
 ) -> Result<Option<String>, AllocError> {
-    let place = Place {
-        alloc,
-        known,
-        rule: Codec::Ber,
-        levels: LEVELS,
-        depth: 0,
-        title,
-        hint: None,
-    };
+    let place = Place::of(alloc, known, Codec::Ber, title);
     let mut title = String::from_str(alloc, title)?;
     let (inner, shown) = innermost(&mut title, place, view)?;
     if shown.is_some() {
@@ -277,6 +297,11 @@ fn print_heading(
     if let (false, Some(Value::Arcs(identifier))) = (is_list, values.first()) {
         return push_line(text, place, &identifier_text(place.alloc, identifier)?);
     }
+    print_title(text, place)
+}
+
+/// Appends a line of a title.
+fn print_title(text: &mut String, place: Place<'_>) -> Appended {
     let title = place.title;
     push_indent(text, place.depth)?;
     writeln!(text, "{title}")
@@ -400,15 +425,23 @@ fn print_entry(text: &mut String, place: Place<'_>, entry: &Entry<'_>) -> Append
 /// component that is an OBJECT IDENTIFIER or begins with one, as an AlgorithmIdentifier.
 fn hint_of(values: &[Value<'_>]) -> Option<&'static str> {
     for value in values {
-        let first = match value {
-            Value::Items(parts) => parts.first(),
-            value => Some(value),
-        };
-        if let Some(Value::Arcs(identifier)) = first {
+        if let Some(identifier) = identifier_in(value) {
             return identifier_name(identifier.arcs());
         }
     }
     None
+}
+
+/// Returns the OBJECT IDENTIFIER that a value is or begins with.
+fn identifier_in<'value>(value: &'value Value<'_>) -> Option<&'value ObjectIdentifier> {
+    let first = match value {
+        Value::Items(parts) => parts.first(),
+        value => Some(value),
+    };
+    match first {
+        Some(Value::Arcs(identifier)) => Some(identifier),
+        _ => None,
+    }
 }
 
 /// Returns the name of a type of a schema.

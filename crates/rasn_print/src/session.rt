@@ -3,7 +3,7 @@ ghost use Rattle.std.specs.Prelude.{◌≡◌, true};
 
 use crate::catalog::{Catalog, candidates_for};
 use crate::command_line::{Call, Work};
-use crate::dump::{Entries, Entry, entry_line, fault_text};
+use crate::dump::{Entries, Entry, entry_line, fault_text, first_encoding};
 use crate::fault::Fault;
 use crate::input::{Form, form_of, from_line, is_plain_text, why_not_hexadecimal, without_mark};
 use crate::known::Candidates;
@@ -12,10 +12,12 @@ use crate::pasted::unindented;
 use crate::pem_fault::block_fault;
 use crate::query::{cell_text, row_text};
 use crate::reason::Reason;
-use crate::work::{Answer, Context, Input, answer_of_first, answer_to, is_of_first, printed};
-use rasn_de::ber::de::{Decoder, DecoderOptions};
+use crate::printer::large::Lines;
+use crate::printer::write_large;
+use crate::work::{
+    Answer, Context, Input, Shown, answer_of_first, answer_to, is_of_first, printed,
+};
 use rasn_text::{Block, Escaping, visible};
-use rasn_types::types::Codec;
 use std::alloc::{AllocError, Global};
 use std::io::{self, BufRead, ErrorKind, Write};
 use std::{fmt, slice, str};
@@ -193,11 +195,12 @@ impl<W: Write + Drop, E: Write + Drop> Session<'_, W, E> {
                 if self.call.work == Work::Table {
                     self.write_cell(name)?;
                 }
-                if is_headed {
-                    let heading = visible(self.alloc, Escaping::Line, name)?;
-                    writeln!(self.output, "{heading}").map_err(Fault::of_write)?;
-                }
+                self.write_name(name, is_headed)?;
                 self.write(&octets)
+            }
+            Answer::Large(shown) => {
+                self.write_name(name, is_headed)?;
+                self.write_large(&shown, octets)
             }
             Answer::Departures(reasons) => self.write_departures(name, reasons.as_slice()),
             Answer::Refused(reason) => {
@@ -209,6 +212,27 @@ impl<W: Write + Drop, E: Write + Drop> Session<'_, W, E> {
                 self.refuse(name, &text)
             }
         }
+    }
+
+    /// Writes the name of a message, if that is wanted.
+    fn write_name(&mut self, name: &str, is_headed: bool) -> Result<(), Fault> {
+        if !is_headed {
+            return Ok(());
+        }
+        let heading = visible(self.alloc, Escaping::Line, name)?;
+        writeln!(self.output, "{heading}").map_err(Fault::of_write)
+    }
+
+    /// Writes the lines of a large message, which is of this type.
+    fn write_large(&mut self, shown: &Shown, octets: &[u8]) -> Result<(), Fault> {
+        let alloc = self.alloc;
+        let known = self.catalog.known_for(alloc, self.call, shown.candidates)?;
+        let mut lines = Lines {
+            output: &mut self.output,
+            text: String::new(alloc),
+            is_colored: self.is_colored,
+        };
+        write_large(&mut lines, alloc, known, shown, octets)
     }
 
     /// Returns what messages are worked on with that may be of these types.
@@ -345,16 +369,28 @@ impl<W: Write + Drop, E: Write + Drop> Session<'_, W, E> {
     /// Works on the line with this index: prints its answer, `ok` if that is empty, or why it is
     /// refused.
     fn line(&mut self, name: &str, index: usize, line: &[u8]) -> Result<(), Fault> {
-        let number = index.saturating_add(1);
-        match self.line_answer(line)? {
+        let (alloc, number) = (self.alloc, index.saturating_add(1));
+        let line = without_mark(line);
+        let Some(octets) = from_line(alloc, self.call.work, line)? else {
+            let reason = why_not_hexadecimal(line, "neither hexadecimal nor base64");
+            let reason = Reason::of(alloc, &reason)?;
+            return self.refuse_line(name, number, slice::from_ref(&reason));
+        };
+        let input = Input {
+            octets: octets.as_slice(),
+            label: None,
+            is_text: true,
+        };
+        match self.answer(&input)? {
             Answer::Done(text) if text.is_empty() => self.write(b"ok\n"),
             Answer::Done(text) => {
                 if self.call.work == Work::Table {
-                    let number = number.to_string(self.alloc)?;
+                    let number = number.to_string(alloc)?;
                     self.write_cell(number.as_str())?;
                 }
                 self.write(&text)
             }
+            Answer::Large(shown) => self.write_large(&shown, octets.as_slice()),
             Answer::Departures(reasons) => self.refuse_line(name, number, reasons.as_slice()),
             Answer::Refused(reason) => self.refuse_line(name, number, slice::from_ref(&reason)),
         }
@@ -387,37 +423,6 @@ impl<W: Write + Drop, E: Write + Drop> Session<'_, W, E> {
         }
         let text = visible(alloc, Escaping::Line, text.as_str())?;
         writeln!(self.output, "{text}").map_err(Fault::of_write)
-    }
-
-    /// Returns what is printed for the octets that a line denotes, or for those of its JSON.
-    fn line_answer(&mut self, line: &[u8]) -> Result<Answer, Fault>
-        ensures { self.new.is_refused ≡ self.old.is_refused }
-    {
-        let alloc = self.alloc;
-        let line = without_mark(line);
-        let Some(octets) = from_line(alloc, self.call.work, line)? else {
-            let reason = why_not_hexadecimal(line, "neither hexadecimal nor base64");
-            return Ok(Answer::Refused(Reason::of(alloc, &reason)?));
-        };
-        let input = Input {
-            octets: octets.as_slice(),
-            label: None,
-            is_text: true,
-        };
-        self.answer(&input)
-    }
-}
-
-/// Returns the whole encoding with which octets begin, or all of them without one, and what follows
-/// it.
-fn first_encoding(alloc: Global, octets: &[u8]) -> (&[u8], &[u8]) {
-    let mut decoder = Decoder::new(alloc, octets, DecoderOptions::of(Codec::Ber));
-    match decoder.skip_value() {
-        Ok(_) => {
-            let end = octets.len().saturating_sub(decoder.remaining().len());
-            octets.split_at_checked(end).unwrap_or((octets, &[]))
-        }
-        Err(_) => (octets, &[]),
     }
 }
 
