@@ -3,12 +3,12 @@
 pub(crate) mod large;
 
 use crate::dump::{End, Entries, Entry, primitive_text, push_entry, push_indent};
+use crate::fault::Fault;
 use crate::identifiers::{identifier_name, identifier_text};
 use crate::known::{Form, Known};
 use crate::leaf::leaf_text;
 use crate::name::name_text;
 use crate::refusal_text::text_of;
-use crate::fault::Fault;
 use crate::types::MessageType;
 use crate::work::Shown;
 use large::{Lines, write_message};
@@ -450,6 +450,14 @@ fn name_of_type(schema: &Schema, id: TypeId) -> Option<&str> {
     Some(named.name.as_str())
 }
 
+/// Returns whether values of a type are distinguished names or what these are made of.
+fn is_name(schema: &Schema, id: TypeId) -> bool {
+    matches!(
+        name_of_type(schema, id),
+        Some("RDNSequence" | "RelativeDistinguishedName")
+    )
+}
+
 /// Returns a value in one line, if it reads better so: distinguished names and addresses.
 fn short_text(
     place: Place<'_>,
@@ -457,12 +465,12 @@ fn short_text(
     view: &View<'_, '_>,
 ) -> Result<Option<String>, AllocError> {
     let (alloc, value) = (place.alloc, view.value);
-    let name = name_of_type(view.schema, view.type_id).unwrap_or("");
-    if name == "RDNSequence" || name == "RelativeDistinguishedName" {
+    if is_name(view.schema, view.type_id) {
         return name_text(alloc, place.known, value);
     }
     if let Value::Octets(octets) = value {
-        if name == "IpAddress" || title.ends_with("iPAddress") {
+        let name = name_of_type(view.schema, view.type_id);
+        if name == Some("IpAddress") || title.ends_with("iPAddress") {
             return address_text(alloc, octets.as_slice());
         }
     }

@@ -10,10 +10,10 @@ use crate::known::Candidates;
 use crate::messages::{TRUST, TRUSTED};
 use crate::pasted::unindented;
 use crate::pem_fault::block_fault;
-use crate::query::{cell_text, row_text};
-use crate::reason::Reason;
 use crate::printer::large::Lines;
 use crate::printer::write_large;
+use crate::query::{cell_text, row_text};
+use crate::reason::Reason;
 use crate::work::{
     Answer, Context, Input, Shown, answer_of_first, answer_to, is_of_first, printed,
 };

@@ -1,8 +1,10 @@
 //! Large values as lines that are written as they are made: their parts are read one by one, so that
-//! a message takes little more memory than its octets.
+//! a message takes little more memory than its octets. The lines are those of a value that is read
+//! whole, except that an identifier inside a large component says nothing of the components after it.
 
 use super::{
-    MESSAGE_LEVELS, Place, hint_of, identifier_in, print, print_encoding, print_heading, print_title,
+    MESSAGE_LEVELS, Place, hint_of, identifier_in, is_name, print, print_encoding, print_heading,
+    print_title,
 };
 use crate::dump::{Entry, entry_of, first_encoding, is_ended};
 use crate::fault::Fault;
@@ -40,7 +42,9 @@ impl<W: Write + Drop> Lines<'_, W> {
     fn flush(&mut self, alloc: Global) -> Result<(), Fault> {
         let text = mem::replace(&mut self.text, String::new(alloc));
         let shown = lines_shown(alloc, self.is_colored, text)?;
-        self.output.write_all(shown.as_bytes()).map_err(Fault::of_write)
+        self.output
+            .write_all(shown.as_bytes())
+            .map_err(Fault::of_write)
     }
 }
 
@@ -79,6 +83,9 @@ fn write<W: Write + Drop>(
         title: title.as_str(),
         ..place
     };
+    if is_name(schema, id) {
+        return write_whole(lines, part, schema, id, octets);
+    }
     match type_at(schema.types(), id) {
         Some(Type::SequenceOf { element, .. } | Type::SetOf { element, .. }) => {
             write_elements(lines, part, schema, *element, octets)
@@ -309,12 +316,7 @@ fn tag_of(alloc: Global, octets: &[u8]) -> Result<Tag, AllocError> {
 }
 
 /// Returns the index of the first component from the next on that may begin with a tag.
-fn component_for(
-    types: &[Type],
-    components: &[Component],
-    next: usize,
-    tag: Tag,
-) -> Option<usize> {
+fn component_for(types: &[Type], components: &[Component], next: usize, tag: Tag) -> Option<usize> {
     for (index, component) in components.iter().enumerate().skip(next) {
         let id = component.type_id;
         if !is_unknown_at(types, id) && begins(types, types.len(), id, tag) {
@@ -390,7 +392,7 @@ fn write_heading<W: Write + Drop>(
     found: &Found<'_>,
 ) -> Result<bool, AllocError> {
     if let Some(value) = small_value(place, schema, ty, found, 0)? {
-        if let Value::Arcs(_) = value {
+        if let Value::Arcs(_) = &value {
             print_heading(&mut lines.text, place, false, slice::from_ref(&value))?;
             return Ok(true);
         }
