@@ -4,7 +4,6 @@ use crate::command_line::Call;
 use crate::printer::inside;
 use rasn_dynamic::{Step, steps_of};
 use rasn_schema::{Value, View};
-use rasn_text::{Escaping, visible};
 use std::alloc::{AllocError, Global};
 
 /// Returns the part of a value to which a path leads: from the value, or else from the outermost of
@@ -73,7 +72,7 @@ fn push_parts<'view, 'input>(
 }
 
 /// Returns these cells of a row of a table, each after a tab or, if the call asks for it, after a
-/// comma (RFC 4180), and the end of the line.
+/// comma, and the end of the line.
 ///
 /// # Errors
 /// `AllocError` if memory runs out.
@@ -87,16 +86,15 @@ pub(crate) fn row_text(alloc: Global, call: &Call, cells: &[String]) -> Result<S
     Ok(row)
 }
 
-/// Returns a text as it is in a table: without control characters, and between commas in quotation
-/// marks if it has one of these or a comma (RFC 4180 2).
+/// Returns a text without control characters as it is in a table: between commas in quotation marks
+/// if it has one of these or a comma (RFC 4180 2).
 ///
 /// # Errors
 /// `AllocError` if memory runs out.
 pub(crate) fn cell_text(alloc: Global, call: &Call, text: &str) -> Result<String, AllocError> {
-    let shown = visible(alloc, Escaping::Line, text)?;
-    if !call.is_csv || !shown.as_str().contains([',', '"'].as_slice()) {
-        return Ok(shown);
+    if !call.is_csv || !text.contains([',', '"'].as_slice()) {
+        return String::from_str(alloc, text);
     }
-    let doubled = shown.as_str().replace(alloc, "\"", "\"\"")?;
+    let doubled = text.replace(alloc, "\"", "\"\"")?;
     format!(in alloc; "\"{doubled}\"")
 }

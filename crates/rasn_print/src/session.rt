@@ -5,7 +5,7 @@ use crate::catalog::{Catalog, candidates_for};
 use crate::command_line::{Call, Work};
 use crate::dump::{Entries, Entry, entry_line, fault_text};
 use crate::fault::Fault;
-use crate::input::{Form, form_of, from_line, is_plain_text, why_not_hexadecimal, without_mark};
+use crate::input::{Form, form_of, form_of_line, is_plain_text, without_mark};
 use crate::known::Candidates;
 use crate::messages::{TRUST, TRUSTED};
 use crate::pasted::unindented;
@@ -253,13 +253,18 @@ impl<W: Write + Drop, E: Write + Drop> Session<'_, W, E> {
             return Ok(());
         }
         self.write_cell("message")?;
-        let row = row_text(self.alloc, call, call.paths.as_slice())?;
+        let mut cells = Vec::new(self.alloc);
+        for path in &call.paths {
+            cells.push(visible(self.alloc, Escaping::Line, path.as_str())?)?;
+        }
+        let row = row_text(self.alloc, call, cells.as_slice())?;
         self.write(row.as_bytes())
     }
 
     /// Writes the first cell of a row of a table.
     fn write_cell(&mut self, text: &str) -> Result<(), Fault> {
-        let cell = cell_text(self.alloc, self.call, text)?;
+        let text = visible(self.alloc, Escaping::Line, text)?;
+        let cell = cell_text(self.alloc, self.call, text.as_str())?;
         self.write(cell.as_bytes())
     }
 
@@ -395,12 +400,14 @@ impl<W: Write + Drop, E: Write + Drop> Session<'_, W, E> {
     {
         let alloc = self.alloc;
         let line = without_mark(line);
-        let Some(octets) = from_line(alloc, self.call.work, line)? else {
-            let reason = why_not_hexadecimal(line, "neither hexadecimal nor base64");
-            return Ok(Answer::Refused(Reason::of(alloc, &reason)?));
+        let form = form_of_line(alloc, self.call.work, line)?;
+        let octets = match &form {
+            Form::Octets | Form::Pem(_) => line,
+            Form::Text(octets) => octets.as_slice(),
+            Form::Wrong(reason) => return Ok(Answer::Refused(Reason::of(alloc, reason)?)),
         };
         let input = Input {
-            octets: octets.as_slice(),
+            octets,
             label: None,
             is_text: true,
         };
