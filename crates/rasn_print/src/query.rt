@@ -54,7 +54,7 @@ fn part_after<'view, 'input>(
     }
 }
 
-/// Appends the parts of a value, in their order.
+/// Appends the parts of a value that hold others, in their order.
 fn push_parts<'view, 'input>(
     views: &mut Vec<View<'view, 'input>>,
     view: &View<'view, 'input>,
@@ -62,13 +62,34 @@ fn push_parts<'view, 'input>(
     if let Value::Items(values) | Value::Elements(values) = view.value {
         for index in 0..values.len() {
             if let Some(part) = view.at(index) {
-                views.push(part)?;
+                push_part(views, part)?;
             }
         }
-    } else if let Some((_, inner)) = inside(view) {
-        views.push(inner)?;
+    } else if let Some((_, part)) = inside(view) {
+        push_part(views, part)?;
     }
     Ok(())
+}
+
+/// Appends a part, if it holds others.
+fn push_part<'view, 'input>(
+    views: &mut Vec<View<'view, 'input>>,
+    part: View<'view, 'input>,
+) -> Result<(), AllocError> {
+    match part.value {
+        Value::Items(_) | Value::Elements(_) | Value::Chosen(_, _) => views.push(part),
+        Value::Boolean(_)
+        | Value::Null
+        | Value::Integer(_)
+        | Value::Bits(_)
+        | Value::Octets(_)
+        | Value::Text(_)
+        | Value::Units(_)
+        | Value::Arcs(_)
+        | Value::Instant(_)
+        | Value::Day(_)
+        | Value::Absent => Ok(()),
+    }
 }
 
 /// Returns these cells of a row of a table, each after a tab or, if the call asks for it, after a

@@ -1,5 +1,5 @@
 //! Goes over the messages of inputs.
-ghost use Rattle.std.specs.Prelude.{◌≡◌, true};
+ghost use Rattle.std.specs.Prelude.{◌≡◌, ◌<◌, true, length};
 
 use crate::catalog::{Catalog, candidates_for};
 use crate::command_line::{Call, Work};
@@ -211,16 +211,16 @@ impl<W: Write + Drop, E: Write + Drop> Session<'_, W, E> {
         }
     }
 
-    /// Returns what messages are worked on with that may be of these types.
-    fn context(&mut self, candidates: Candidates) -> Result<Context<'_>, Fault>
-        ensures { self.new.is_refused ≡ self.old.is_refused }
+    /// Returns what messages are worked on with that may be of the types with this index.
+    fn context(&self, index: usize) -> Context<'_>
+        requires { index < length self.now.catalog.known.items }
     {
-        Ok(Context {
+        Context {
             alloc: self.alloc,
             call: self.call,
-            known: self.catalog.known_for(self.alloc, self.call, candidates)?,
+            known: self.catalog.known(index),
             is_colored: self.is_colored,
-        })
+        }
     }
 
     /// Returns what is printed for a message. While the types that are tried aren't resolved, the
@@ -228,18 +228,21 @@ impl<W: Write + Drop, E: Write + Drop> Session<'_, W, E> {
     fn answer(&mut self, input: &Input<'_>) -> Result<Answer, Fault>
         ensures { self.new.is_refused ≡ self.old.is_refused }
     {
-        let candidates = candidates_for(self.call, input.label);
-        if self.catalog.may_try_first(candidates)
-            && is_of_first(&self.context(Candidates::First)?, input)?
-        {
-            let candidates = if self.call.work == Work::Show {
-                Candidates::Labelled(0)
-            } else {
-                Candidates::First
-            };
-            return Ok(answer_of_first(&self.context(candidates)?, input)?);
+        let (alloc, call) = (self.alloc, self.call);
+        let candidates = candidates_for(call, input.label);
+        if self.catalog.may_try_first(candidates) {
+            let first = self.catalog.resolve(alloc, call, Candidates::First)?;
+            if is_of_first(&self.context(first), input)? {
+                let shown = if call.work == Work::Show {
+                    self.catalog.resolve(alloc, call, Candidates::Labelled(0))?
+                } else {
+                    first
+                };
+                return Ok(answer_of_first(&self.context(shown), input)?);
+            }
         }
-        Ok(answer_to(&self.context(candidates)?, input)?)
+        let index = self.catalog.resolve(alloc, call, candidates)?;
+        Ok(answer_to(&self.context(index), input)?)
     }
 
     /// Writes the first line of a table, if one is asked for: the names of its columns, which are the
@@ -314,8 +317,8 @@ impl<W: Write + Drop, E: Write + Drop> Session<'_, W, E> {
     /// Writes the line of an encoding.
     fn write_entry(&mut self, entry: &Entry<'_>) -> Result<(), Fault> {
         let alloc = self.alloc;
-        let context = self.context(Candidates::Nothing)?;
-        let line = entry_line(alloc, context.known, entry)?;
+        let index = self.catalog.resolve(alloc, self.call, Candidates::Nothing)?;
+        let line = entry_line(alloc, self.catalog.known(index), entry)?;
         self.write(printed(alloc, Escaping::Lines, line)?.as_bytes())
     }
 
