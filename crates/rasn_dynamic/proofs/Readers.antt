@@ -30,7 +30,7 @@ use Rattle.rasn_schema.specs.Shapes.{shape_of_type, type_by, components_by}
 use Rattle.rasn_schema.specs.Trees.{tree_of}
 use Rattle.rasn_schema.specs.Fitting.{Fits, FitsBy, ComponentsFit, EachFits, AreItems, AreElements}
 use Rattle.rasn_dynamic.specs.declared.walk.Refused.{Refused}
-use Rattle.rasn_dynamic.specs.declared.trace.Fault.{Fault}
+use Rattle.rasn_dynamic.specs.declared.trace.UnreadValue.{UnreadValue}
 use Rattle.rasn_dynamic.specs.declared.span.Spans.{Spans}
 use Rattle.rasn_dynamic.specs.Inside.{ReadsSequence, DecodesTree}
 use Rattle.rasn_dynamic.specs.Making.{Making, Counting, IsLength, outcome, reported, trees_of, these}
@@ -50,7 +50,7 @@ use Rattle.rasn_dynamic.proofs.Listed.{HasHeader, HoldsNone, if_any, inside_list
 
 -- What is read of a value with this header, whose contents are read as `read` says.
 pub record ReadsHeld (types : List «Type») (below : ℕ) (keep : Bool) (ty : «Type») (read : Call Tree) (d : ConstructedHeader)
-    (old : State) (before : Spans) (r : Result Value DecodeError) (new : State) (fault : Option Fault) (after : Spans) : Type 0 where
+    (old : State) (before : Spans) (r : Result Value DecodeError) (new : State) (fault : Option UnreadValue) (after : Spans) : Type 0 where
   pub exact : Making keep tree_of (DecodesInside read d) old r new
   pub octets : old.depth ≢ 0 → AreOctets old.rest
   pub fits : keep ≡ true → IfOk r (FitsBy (Fits types below) ty)
@@ -77,7 +77,7 @@ inside_held f (SequenceOf tag id c) n o r m h = counted (DecodesContents f (Sequ
 inside_held f (SetOf tag id c) n o r m h = counted (DecodesContents f (SetOf tag id c)) n o r m h
 
 -- The number is passed on.
-pub count_is : (n : ℕ) (q : Result ℕ Refused) (old : Option Fault) (m : ℕ) (new : Option Fault) → IsCounted n q old (Ok m) new → m ≡ count_of q
+pub count_is : (n : ℕ) (q : Result ℕ Refused) (old : Option UnreadValue) (m : ℕ) (new : Option UnreadValue) → IsCounted n q old (Ok m) new → m ≡ count_of q
 count_is n (Ok k) old m new w = w.0
 count_is n (Err p) old m new w = absurd w
 
@@ -114,11 +114,11 @@ module _ (types : List «Type») (below : ℕ) (keep : Bool) where
 
   module _ (ty : «Type») (read : Call Tree) (d : ConstructedHeader)
       (old : State) (octets : old.depth ≢ 0 → AreOctets old.rest) (before : Spans) where
-    abbrev Held : Result Value DecodeError → State → Option Fault → Spans → Type 0
+    abbrev Held : Result Value DecodeError → State → Option UnreadValue → Spans → Type 0
     Held r new fault after = ReadsHeld types below keep ty read d old before r new fault after
 
     -- The value isn't opened.
-    pub unopened : (o : Result (State × Contents) DecodeError) (e : DecodeError) (mid : State) (fault : Option Fault) (after : Spans)
+    pub unopened : (o : Result (State × Contents) DecodeError) (e : DecodeError) (mid : State) (fault : Option UnreadValue) (after : Spans)
         → Err e ≡ o → ConsumesOpening d old o mid → fault ≡ None → Held (Err e) mid fault after
     unopened o e mid fault after q w clear =
         let k : ConsumesOpening d old (Err e) mid = subst (λ z. ConsumesOpening d old z mid) (sym q) w in
@@ -134,7 +134,7 @@ module _ (types : List «Type») (below : ℕ) (keep : Bool) where
 
     -- It is opened, and its contents are read, or aren't.
     module _ (them : EachCall read (DecodesContents f ty)) (p : State) (c : Contents) (mid : State) (w : ConsumesOpening d old (Ok (p, c)) mid)
-        (q : Result ℕ Refused) (out : Value) (error : DecodeError) (left : State) (told : Option Fault) (inside spans : Spans)
+        (q : Result ℕ Refused) (out : Value) (error : DecodeError) (left : State) (told : Option UnreadValue) (inside spans : Spans)
         (h : ReadsContents types below keep ty read p inside (outcome q out error) left told spans) where
       abbrev Contained : Result ℕ Refused → Type 0
       Contained r = ReadsContents types below keep ty read p inside (outcome r out error) left told spans
@@ -145,15 +145,15 @@ module _ (types : List «Type») (below : ℕ) (keep : Bool) where
       stays : (e : DecodeError) → read p (Err e) left → left.closing ≡ p.closing
       stays e k = ap (λ (s : State). s.closing) (contents_stay f ty p e left (them p (Err e) left k))
 
-      short_by : (r : Result ℕ Refused) → Contained r → (x : Fault) → told ≡ Some x → x.left + following ≤ length old.rest
+      short_by : (r : Result ℕ Refused) → Contained r → (x : UnreadValue) → told ≡ Some x → x.left + following ≤ length old.rest
       short_by (Ok u) k x s = absurd (not_named told x s k.told)
       short_by (Err n) k x s =
           opened_short types d old octets p c mid w below (IsAnyPart f ty p) error x left.closing following (stays error k.exact) refl (k.told x s)
 
-      pub may_count : (n : ℕ) → n ≡ length old.rest → n < 2 ^ 64 → (x : Fault) → told ≡ Some x → x.left + following < 2 ^ 64
+      pub may_count : (n : ℕ) → n ≡ length old.rest → n < 2 ^ 64 → (x : UnreadValue) → told ≡ Some x → x.left + following < 2 ^ 64
       may_count n l m x s = omega (arith, l, m, short_by q h x s)
 
-      refused_by : (r : Result ℕ Refused) → Contained r → (x : Refused) (fault : Option Fault) (after : Spans)
+      refused_by : (r : Result ℕ Refused) → Contained r → (x : Refused) (fault : Option UnreadValue) (after : Spans)
           → IsCounted following r told (Err x) fault → Held (Err error) mid fault after
       refused_by (Ok u) k x fault after n = absurd n
       refused_by (Err y) k x fault after n = record {
@@ -166,20 +166,20 @@ module _ (types : List «Type») (below : ℕ) (keep : Bool) where
         listed = tt;
       }
 
-      pub refused : (x : Refused) (fault : Option Fault) (after : Spans) → IsCounted following q told (Err x) fault → Held (Err error) mid fault after
+      pub refused : (x : Refused) (fault : Option UnreadValue) (after : Spans) → IsCounted following q told (Err x) fault → Held (Err error) mid fault after
       refused = refused_by q h
 
       -- They are: then the value may be closed.
-      end_by : (r : Result ℕ Refused) → Contained r → (u : ℕ) (fault : Option Fault) → IsCounted following r told (Ok u) fault
+      end_by : (r : Result ℕ Refused) → Contained r → (u : ℕ) (fault : Option UnreadValue) → IsCounted following r told (Ok u) fault
           → IsEnd p.rest left.rest
       end_by (Ok v) k u fault n = contents_end f ty p k.exact.0 left (them p (Ok k.exact.0) left k.exact.2)
       end_by (Err y) k u fault n = absurd n
 
-      pub may_close : (u : ℕ) (fault : Option Fault) → IsCounted following q told (Ok u) fault → (l : List ℕ) → l ≡ left.rest
+      pub may_close : (u : ℕ) (fault : Option UnreadValue) → IsCounted following q told (Ok u) fault → (l : List ℕ) → l ≡ left.rest
           → extent c ≡ indefinite → IsEnd mid.rest l
       may_close u fault n l m = step_end read d old p c mid w left.rest l (end_by q h u fault n) m
 
-      module _ (u : ℕ) (fault : Option Fault) (n : IsCounted following q told (Ok u) fault) (after : Spans) (l : List ℕ) (m : l ≡ left.rest) (new : State) where
+      module _ (u : ℕ) (fault : Option UnreadValue) (n : IsCounted following q told (Ok u) fault) (after : Spans) (l : List ℕ) (m : l ≡ left.rest) (new : State) where
         unclosed_by : (r : Result ℕ Refused) → Contained r → IsCounted following r told (Ok u) fault
             → (e : DecodeError) → ConsumesEnd (extent c) l mid (Err e) new → Held (Err e) new fault after
         unclosed_by (Err y) k z e g = absurd z
@@ -216,11 +216,11 @@ module _ (types : List «Type») (below : ℕ) (keep : Bool) where
 
   -- ---- a value of a type
 
-  module _ (old : State) (before : Spans) (r : Result Value DecodeError) (new : State) (fault : Option Fault) (after : Spans) where
+  module _ (old : State) (before : Spans) (r : Result Value DecodeError) (new : State) (fault : Option UnreadValue) (after : Spans) where
     -- Its type says its header.
     typed : (ty : «Type») (d : ConstructedHeader) → HasHeader ty d → ReadsHeld types below keep ty (DecodesContents f ty) d old before r new fault after
         → ((q : Result Tree DecodeError) → DecodesInside (DecodesContents f ty) d old q new → DecodesType f ty old q new)
-        → ((e : DecodeError) (x : Fault) → IsFaultInside types below d ty old e x → IsFaultOf types below ty old e x)
+        → ((e : DecodeError) (x : UnreadValue) → IsFaultInside types below d ty old e x → IsFaultOf types below ty old e x)
         → ((e : DecodeError) → DecodesInside (ReadsEachPart f ty) d old (Err e) new → FailsItself f ty old e) → ReadsType types below keep ty old before r new fault after
     typed ty d has h same told itself =
         let k = made_as keep tree_of (DecodesInside (DecodesContents f ty) d) (DecodesType f ty) old r new same h.exact in
@@ -254,7 +254,7 @@ module _ (types : List «Type») (below : ℕ) (keep : Bool) where
 
   -- ---- contents, whatever the tag and the bound are
 
-  module _ (old : State) (before : Spans) (r : Result Value DecodeError) (new : State) (fault : Option Fault) (after : Spans) where
+  module _ (old : State) (before : Spans) (r : Result Value DecodeError) (new : State) (fault : Option UnreadValue) (after : Spans) where
     -- What an explicit tag holds is a part.
     pub tagged_contents : (tag : Tag) (id : TypeId)
         → Making keep tree_of (DecodesTree (f id.0)) old r new → (keep ≡ true → IfOk r (λ v. Fits types below id.0 v)) → IfErr r (λ e. e.codec ≡ old.rule)
@@ -290,14 +290,14 @@ module _ (types : List «Type») (below : ℕ) (keep : Bool) where
 
   -- ---- the number of elements
 
-  module _ (old : State) (before : Spans) (new : State) (fault : Option Fault) (after : Spans)
+  module _ (old : State) (before : Spans) (new : State) (fault : Option UnreadValue) (after : Spans)
       (tag : Tag) (c : Constraints) (n : ℕ) (d : ConstructedHeader) (i : d ≡ list_header tag) where
     abbrev Listing : «Type» → Result Value DecodeError → Type 0
     Listing ty r = ReadsHeld types below keep ty (DecodesCounted (DecodesContents f ty) n) d old before r new fault after
 
     module _ (ty : «Type») (has : HasHeader ty (list_header tag))
         (same : (q : Result Tree DecodeError) → DecodesSized (DecodesContents f ty) element_count tag c old q new → DecodesType f ty old q new)
-        (named : (e : DecodeError) (x : Fault) → IsFaultInside types below (list_header tag) ty old e x → IsFaultOf types below ty old e x)
+        (named : (e : DecodeError) (x : UnreadValue) → IsFaultInside types below (list_header tag) ty old e x → IsFaultOf types below ty old e x)
         (itself : (e : DecodeError) → DecodesSized (ReadsEachPart f ty) element_count tag c old (Err e) new → FailsItself f ty old e) where
       -- The elements aren't read.
       unread : (e : DecodeError) → Listing ty (Err e) → ReadsType types below keep ty old before (Err e) new fault after
@@ -360,7 +360,7 @@ module _ (types : List «Type») (below : ℕ) (keep : Bool) where
 
   -- ---- a value with its header, whatever its type is
 
-  module _ (old : State) (before : Spans) (new : State) (fault : Option Fault) (after : Spans) where
+  module _ (old : State) (before : Spans) (new : State) (fault : Option UnreadValue) (after : Spans) where
     -- It isn't opened, what is inside isn't read, or it isn't closed.
     pub enclosed_refused : (ty : «Type») (d : ConstructedHeader) → IsHeaderOf ty (Some d) → (n : ℕ) (e : DecodeError)
         → ReadsHeld types below keep ty (DecodesHeld f ty n) d old before (Err e) new fault after → ReadsType types below keep ty old before (Err e) new fault after
@@ -403,7 +403,7 @@ module _ (types : List «Type») (below : ℕ) (keep : Bool) where
 
   -- ---- a value that holds no others
 
-  module _ (old : State) (spans : Spans) (r : Result Value DecodeError) (new : State) (fault : Option Fault) where
+  module _ (old : State) (spans : Spans) (r : Result Value DecodeError) (new : State) (fault : Option UnreadValue) where
     exact_none : (ty : «Type») → HoldsNone ty → Making keep tree_of (DecodesTree (type_by f ty)) old r new → Making keep tree_of (DecodesType f ty) old r new
     exact_none (Leaf kind tag c names) h k = k
     exact_none (Enumerated tag ns) h k = k
@@ -430,7 +430,7 @@ module _ (types : List «Type») (below : ℕ) (keep : Bool) where
 
   -- ---- the components of a SEQUENCE
 
-  module _ (old : State) (before : Spans) (new : State) (fault : Option Fault) (after : Spans) where
+  module _ (old : State) (before : Spans) (new : State) (fault : Option UnreadValue) (after : Spans) where
     module _ (ps : Vec Component Global) where
       abbrev InSequence : Result Value DecodeError → Type 0
       InSequence r = ReadsContents types below keep (Sequence eoc ps) (DecodesContents f (Sequence eoc ps)) old before r new fault after
@@ -438,7 +438,7 @@ module _ (types : List «Type») (below : ℕ) (keep : Bool) where
       -- These are the components l.
       module _ (l : List Component) (e : l ≡ ps.items) where
         pub components_refused : (x : DecodeError) → DecodesBy (ReadsSequence (components_by f l)) items old (Err x) new → FailsAtPart (components_by f l) old x new ⊎ IsOutOfMemory x.kind
-            → x.codec ≡ old.rule → ((y : Fault) → fault ≡ Some y → IsFaultIn types below (IsComponentAt f l old) old old x y) → (fault ≡ None → StopsInSequence f l old x) → InSequence (Err x)
+            → x.codec ≡ old.rule → ((y : UnreadValue) → fault ≡ Some y → IsFaultIn types below (IsComponentAt f l old) old old x y) → (fault ≡ None → StopsInSequence f l old x) → InSequence (Err x)
         components_refused x reads fails rules told itself = record {
           exact = subst (λ z. DecodesComponents (components_by f z) old (Err x) new) e (reads, fails);
           fits = λ k. tt;
@@ -477,7 +477,7 @@ module _ (types : List «Type») (below : ℕ) (keep : Bool) where
         Read r b z = MayRunOut (DecodesSetPartContents b (components_by f z) items (names_of z)) old r new
 
         pub members_refused : (x : DecodeError) → Read (Err x) extensible qs → x.codec ≡ old.rule
-            → ((y : Fault) → fault ≡ Some y → IsFaultIn types below (IsMemberAfter f extensible qs other old) old old x y) → (fault ≡ None → StopsInSet f (string_bytes name) extensible qs old x) → InSet (Err x)
+            → ((y : UnreadValue) → fault ≡ Some y → IsFaultIn types below (IsMemberAfter f extensible qs other old) old old x y) → (fault ≡ None → StopsInSet f (string_bytes name) extensible qs old x) → InSet (Err x)
         members_refused x reads rules told itself = record {
           exact = so (λ b z o. Read (Err x) b z) reads;
           fits = λ k. tt;

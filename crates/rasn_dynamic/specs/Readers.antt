@@ -10,7 +10,7 @@ use Rattle.rasn_schema.specs.Shapes.{shape_of_type, type_by}
 use Rattle.rasn_schema.specs.Trees.{tree_of}
 use Rattle.rasn_schema.specs.Fitting.{Fits, FitsBy}
 use Rattle.rasn_dynamic.specs.declared.walk.Refused.{Refused}
-use Rattle.rasn_dynamic.specs.declared.trace.Fault.{Fault}
+use Rattle.rasn_dynamic.specs.declared.trace.UnreadValue.{UnreadValue}
 use Rattle.rasn_dynamic.specs.declared.span.Spans.{Spans}
 use Rattle.rasn_dynamic.specs.Inside.{DecodesTree}
 use Rattle.rasn_dynamic.specs.Making.{Making}
@@ -19,7 +19,7 @@ use Rattle.rasn_dynamic.specs.Faults.{IsFaultIn, IsFaultOf, IsAnyPart, IsMoved, 
 use Rattle.rasn_dynamic.specs.Listed.{Lists, Inside, ContentsListed, ValueListed}
 
 -- The outcome is passed on. If it is that contents weren't read, n octets after them are counted.
-abbrev pub IsCounted : ℕ → Result ℕ Refused → Option Fault → Result ℕ Refused → Option Fault → Type 0
+abbrev pub IsCounted : ℕ → Result ℕ Refused → Option UnreadValue → Result ℕ Refused → Option UnreadValue → Type 0
 IsCounted n (Ok k) old (Ok m) new = (m ≡ k) × (new ≡ old)
 IsCounted n (Ok k) old (Err q) new = ⊥
 IsCounted n (Err p) old (Ok m) new = ⊥
@@ -65,7 +65,7 @@ IsSizedAs (SetOf tag k c) s n r = IsSized c s n r
 -- same rules; what is named then is a part that can't be read, and if nothing is, each part is read. The parts inside
 -- are listed.
 pub record ReadsContents (types : List «Type») (below : ℕ) (keep : Bool) (ty : «Type») (read : Call Tree)
-    (old : State) (before : Spans) (r : Result Value DecodeError) (new : State) (fault : Option Fault) (after : Spans) : Type 0 where
+    (old : State) (before : Spans) (r : Result Value DecodeError) (new : State) (fault : Option UnreadValue) (after : Spans) : Type 0 where
   pub exact : Making keep tree_of read old r new
   pub fits : keep ≡ true → IfOk r (FitsBy (Fits types below) ty)
   pub rules : IfErr r (λ e. e.codec ≡ old.rule)
@@ -75,7 +75,7 @@ pub record ReadsContents (types : List «Type») (below : ℕ) (keep : Bool) (ty
 
 -- The same of a value of the type, with its header.
 pub record ReadsType (types : List «Type») (below : ℕ) (keep : Bool) (ty : «Type»)
-    (old : State) (before : Spans) (r : Result Value DecodeError) (new : State) (fault : Option Fault) (after : Spans) : Type 0 where
+    (old : State) (before : Spans) (r : Result Value DecodeError) (new : State) (fault : Option UnreadValue) (after : Spans) : Type 0 where
   pub exact : Making keep tree_of (DecodesType (shape_of_type types below) ty) old r new
   pub reads : Making keep tree_of (DecodesTree (type_by (shape_of_type types below) ty)) old r new
   pub fits : keep ≡ true → IfOk r (FitsBy (Fits types below) ty)

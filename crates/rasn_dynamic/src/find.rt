@@ -30,7 +30,7 @@ use std::alloc::Global;
 
 /// Where a value begins.
 #[derive(Drop)]
-struct Place<'input> {
+struct Cursor<'input> {
     /// Reads there.
     decoder: Decoder<'input>,
     /// Where what the decoder sees ends, in octets from the start of the message.
@@ -42,7 +42,7 @@ struct Place<'input> {
 }
 
 /// Goes to the contents of a value of the type, if it has a header before them.
-fn enter(place: &mut Place<'_>, ty: &Type) -> Result<(), DecodeError>
+fn enter(place: &mut Cursor<'_>, ty: &Type) -> Result<(), DecodeError>
     requires seen { length place.old.decoder.rest ≤ place.old.end }
     ensures entered { OnOk result (IsEntered ty.now place.old.decoder place.new.decoder) }
     ensures seen { OnOk result (IsSeen place.old.decoder.rest place.old.end place.new.decoder.rest place.new.end) }
@@ -312,7 +312,7 @@ fn go_inside(
 }
 
 /// Goes from a value to its part with this index. Returns whether the part is present.
-fn go_to_part(place: &mut Place<'_>, types: &[Type], index: usize) -> Result<bool, DecodeError>
+fn go_to_part(place: &mut Cursor<'_>, types: &[Type], index: usize) -> Result<bool, DecodeError>
     requires lawful { IsReadable (shape_of_type types.now place.old.levels place.old.id.0) }
     requires seen { length place.old.decoder.rest ≤ place.old.end }
     ensures found { IfOk result (λ found. MatchBool found (Leads types.now (index ∷ []) place.old.levels place.old.id.0 place.old.decoder place.new.levels place.new.id.0 place.new.decoder) (LacksPartAt types.now place.old.levels place.old.id.0 place.old.decoder index)) }
@@ -338,7 +338,7 @@ fn go_to_part(place: &mut Place<'_>, types: &[Type], index: usize) -> Result<boo
 }
 
 /// Goes along a path. Returns whether there is a part at its end.
-fn go_along(place: &mut Place<'_>, types: &[Type], path: &[usize]) -> Result<bool, DecodeError>
+fn go_along(place: &mut Cursor<'_>, types: &[Type], path: &[usize]) -> Result<bool, DecodeError>
     requires lawful { IsReadable (shape_of_type types.now place.old.levels place.old.id.0) }
     requires seen { length place.old.decoder.rest ≤ place.old.end }
     ensures found { IfOk result (λ found. MatchBool found (Leads types.now path.now place.old.levels place.old.id.0 place.old.decoder place.new.levels place.new.id.0 place.new.decoder) (LacksPath types.now path.now place.old.levels place.old.id.0 place.old.decoder)) }
@@ -357,7 +357,10 @@ fn go_along(place: &mut Place<'_>, types: &[Type], path: &[usize]) -> Result<boo
 }
 
 /// Reads the value at a place, and returns where it is.
-fn read_part<'input>(place: &mut Place<'input>, types: &[Type]) -> Result<Part<'input>, DecodeError>
+fn read_part<'input>(
+    place: &mut Cursor<'input>,
+    types: &[Type],
+) -> Result<Part<'input>, DecodeError>
     requires lawful { IsReadable (shape_of_type types.now place.old.levels place.old.id.0) }
     requires seen { length place.old.decoder.rest ≤ place.old.end }
     ensures read { IfOk result (λ p. IsReadHere types.now place.old.levels place.old.id.0 place.old.decoder p.octets.now p.header_len p.is_indefinite) }
@@ -398,7 +401,7 @@ fn read_along<'input>(
     ensures found { IfOk result (λ found. MatchOption found (LacksPath schema.now.types.items path.now 18446744073709551615 id.0 (start rule input.now)) (IsPartAt schema.now.types.items rule id.0 input.now path.now)) }
 {
     let types = schema.types();
-    let mut place = Place {
+    let mut place = Cursor {
         decoder: Decoder::new(alloc, input, DecoderOptions::of(rule)),
         end: input.len(),
         id,

@@ -6,13 +6,13 @@ ghost use Rattle.rasn_schema.specs.Trees.{tree_of};
 ghost use Rattle.rasn_dynamic.specs.Entry.{FitsType, IsCheckedUpTo, IsReadFirst, shape_of};
 ghost use Rattle.rasn_dynamic.specs.Faults.{IsLocated, IsRefusalOf, start, unlocated};
 ghost use Rattle.rasn_dynamic.specs.Listed.{Lists, PartsInside};
-ghost use Rattle.rasn_dynamic.specs.declared.trace.Fault.{Fault};
+ghost use Rattle.rasn_dynamic.specs.declared.trace.UnreadValue.{UnreadValue};
 
 use crate::made::{Made, Nothing, Values};
 use crate::reader::decode_at;
 use crate::refusal::Refusal;
 use crate::span::{Spans, no_list};
-use crate::trace::{Fault, octets_left};
+use crate::trace::{UnreadValue, octets_left};
 use crate::types::Types;
 use crate::walk::new_walk;
 use rasn_de::ber::de::{Decoder, DecoderOptions};
@@ -25,11 +25,11 @@ use std::alloc::Global;
 pub(crate) fn refusal_of(
     alloc: Global,
     error: DecodeError,
-    trace: Option<Fault>,
+    trace: Option<UnreadValue>,
     id: TypeId,
     len: usize,
 ) -> Refusal
-    requires { (f : Fault) → trace ≡ Some f → f.left ≤ len }
+    requires { (f : UnreadValue) → trace ≡ Some f → f.left ≤ len }
     ensures { IsRefusalOf error trace len result }
 {
     match trace {

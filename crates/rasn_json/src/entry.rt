@@ -16,7 +16,7 @@ use crate::layout::Layout;
 use crate::reader::value_at;
 use crate::syntax::{MAX_NESTING, parse};
 use crate::tokens::{Compact, Tokens};
-use crate::writer::{Place, put_at};
+use crate::writer::{ValuePlace, put_at};
 use json::{Pretty, Scratch, Writer};
 use rasn_dynamic::{WriteError, decode};
 use rasn_schema::{Schema, TypeId, Value};
@@ -75,7 +75,7 @@ fn put_whole<T: Tokens>(
     ensures ok { OnOk result (Appends (JsonWithin schema.now.types.items usize.MAX MAX_NESTING id.0 value.now) (T.Tokens.written out.old) (T.Tokens.written out.new)) }
     ensures err { IfErr result (HasNoJson schema.now.types.items id.0 value.now) }
 {
-    let place = Place {
+    let place = ValuePlace {
         alloc,
         types: schema.types(),
         levels: usize::MAX,
