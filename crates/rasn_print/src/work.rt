@@ -498,7 +498,13 @@ impl Message<'_, '_> {
                 return Ok(Ok(visible(alloc, Escaping::Line, text.as_str())?));
             }
         }
-        match to_json(alloc, part.schema, part.type_id, part.value, Layout::Compact) {
+        match to_json(
+            alloc,
+            part.schema,
+            part.type_id,
+            part.value,
+            Layout::Compact,
+        ) {
             Ok(text) => Ok(Ok(printed(alloc, Escaping::Json, text)?)),
             Err(error) if error.is_out_of_memory() => Err(AllocError),
             Err(error) => Ok(Err(error)),
