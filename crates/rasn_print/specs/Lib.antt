@@ -1,4 +1,5 @@
 pub mod Calls
+pub mod Catalogs
 pub mod Reading
 pub mod Reasons
 pub mod Verdicts

@@ -1,8 +1,8 @@
 //! The types that messages may be of, each resolved once one may be of it.
-ghost use Rattle.std.specs.Prelude.{◌≡◌, [], Some, IfOk, IfSome, slice_get};
+ghost use Rattle.std.specs.Prelude.{◌≡◌, ◌<◌, [], Some, IfOk, IfSome, length, slice_get};
 ghost use Rattle.rasn_print.specs.declared.command_line.Work.TheVariants.{Dump};
-ghost use Rattle.rasn_print.specs.declared.known.Known.{Known};
 ghost use Rattle.rasn_print.specs.declared.known.Candidates.TheVariants.{Named, Nothing};
+ghost use Rattle.rasn_print.specs.Catalogs.{IsIndexOf};
 
 use crate::command_line::{Call, Work};
 use crate::fault::Fault;
@@ -85,7 +85,7 @@ impl<'text> Catalog<'text> {
     /// `Call` if it isn't known, or has no schema. `Memory` if memory runs out.
     pub fn resolve_named(&mut self, alloc: Global, call: &Call) -> Result<(), Fault> {
         if call.type_name.is_some() {
-            self.known_for(alloc, call, Candidates::Named)?;
+            self.resolve(alloc, call, Candidates::Named)?;
         }
         Ok(())
     }
@@ -98,29 +98,38 @@ impl<'text> Catalog<'text> {
             && self.index_of(candidates).is_none()
     }
 
-    /// Returns these types of a call.
+    /// Returns the index of these types of a call, which are resolved if they weren't.
     ///
     /// # Errors
     /// As `resolve_named`.
-    pub(crate) fn known_for(
+    pub(crate) fn resolve(
         &mut self,
         alloc: Global,
         call: &Call,
         candidates: Candidates,
-    ) -> Result<&Known<'text>, Fault>
-        ensures { IfOk result (λ known. known.now.candidates ≡ candidates) }
+    ) -> Result<usize, Fault>
+        ensures { IfOk result (IsIndexOf candidates self.new.known.items) }
     {
         if let Some(index) = self.index_of(candidates) {
-            return Ok(&self.known[index]);
+            return Ok(index);
         }
         let known = self.resolved(alloc, call, candidates)?;
+        let index = self.known.len();
         self.known.push(known)?;
-        Ok(&self.known[self.known.len() - 1])
+        Ok(index)
+    }
+
+    /// Returns the types with this index.
+    pub(crate) fn known(&self, index: usize) -> &Known<'text>
+        requires { index < length self.now.known.items }
+        ensures { Some result.now ≡ slice_get self.now.known.items index }
+    {
+        &self.known[index]
     }
 
     /// Returns the index of these types, if they are resolved.
     fn index_of(&self, candidates: Candidates) -> Option<usize>
-        ensures { IfSome result (λ k. (known : Known) × (Some known ≡ slice_get self.now.known.items k) × (known.candidates ≡ candidates)) }
+        ensures { IfSome result (IsIndexOf candidates self.now.known.items) }
     {
         for (index, known) in self.known.iter().enumerate() {
             if known.candidates == candidates {

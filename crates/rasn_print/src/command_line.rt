@@ -94,7 +94,7 @@ pub struct Call {
 impl Call {
     /// Returns how JSON is laid out: in one line if a line holds a message.
     pub(crate) fn layout(&self) -> Layout {
-        if self.has_lines || self.work != Work::Json {
+        if self.has_lines {
             Layout::Compact
         } else {
             Layout::Indented

@@ -329,10 +329,10 @@ pub(crate) fn primitive_text(
     known: &Known<'_>,
     entry: &Entry<'_>,
 ) -> Result<String, AllocError> {
-    match &known.universal_value(alloc, entry.octets)? {
-        Some(Value::Chosen(_, value)) => leaf_text(alloc, None, value),
-        _ => octets_text(alloc, entry.octets.get(entry.header_len..).unwrap_or(&[])),
+    if let Some(Value::Chosen(_, value)) = &known.universal_value(alloc, entry.octets)? {
+        return leaf_text(alloc, None, value);
     }
+    octets_text(alloc, entry.octets.get(entry.header_len..).unwrap_or(&[]))
 }
 
 /// Returns a tag as text: the name of a universal type, or as it is written in a module.

@@ -36,9 +36,9 @@ pub fn print_notation<W: Write>(
     }
 }
 
-/// Prints a line for each type of the modules, or of those that aren't built in if there are some:
-/// its name, the number of its constraints and contents that aren't checked, or why it has no
-/// schema. Of two modules of one name the first counts. Returns whether each has a schema.
+/// Prints a line for each type of the modules that aren't built in, or else of those that are: its
+/// name, the number of its constraints and contents that aren't checked, or why it has no schema. Of
+/// two modules of one name the first counts. Returns whether each has a schema.
 ///
 /// # Errors
 /// `Write` if the output can't be written, `Closed` if its reader has gone, `Memory` if memory runs
@@ -46,10 +46,11 @@ pub fn print_notation<W: Write>(
 pub fn print_types<W: Write>(
     alloc: Global,
     read: &Modules<'_>,
+    are_own: bool,
     output: &mut W,
 ) -> Result<bool, Fault> {
     let (own, built_in) = types_by_origin(alloc, read)?;
-    let types = if own.is_empty() { built_in } else { own };
+    let types = if are_own { own } else { built_in };
     let library = read.library(alloc, types.as_slice())?;
     let (mut faults, mut roots) = (0usize, 0usize);
     for of in &types {

@@ -6,7 +6,7 @@ use crate::dump::{End, Entries, Entry, primitive_text, push_entry, push_indent};
 use crate::fault::Fault;
 use crate::identifiers::{identifier_name, identifier_text};
 use crate::known::{Form, Known};
-use crate::leaf::leaf_text;
+use crate::leaf::{leaf_text, string_text};
 use crate::name::name_text;
 use crate::refusal_text::text_of;
 use crate::types::MessageType;
@@ -94,8 +94,8 @@ pub(crate) fn write_large<W: Write + Drop>(
     write_message(lines, place, &known.schema, shown.root, octets)
 }
 
-/// Returns a value in a line, if it is one that holds no others, a name or an address: text as it is,
-/// and other values as `value_text` has them.
+/// Returns a value in a line, if it is one that holds no others, a name or an address: a character
+/// string as it is, and other values as `value_text` has them.
 ///
 /// # Errors
 /// `AllocError` if memory runs out.
@@ -111,12 +111,12 @@ pub(crate) fn line_text(
     if shown.is_some() {
         return Ok(shown);
     }
-    if let Value::Text(text) = inner.value {
-        return Ok(Some(String::from_str(alloc, text.as_str())?));
-    }
     match type_at(inner.schema.types(), inner.type_id) {
         Some(ty @ (Type::Leaf { .. } | Type::Enumerated { .. })) => {
-            Ok(Some(leaf_text(alloc, Some(ty), inner.value)?))
+            match string_text(alloc, ty, inner.value)? {
+                Some(text) => Ok(Some(text)),
+                None => Ok(Some(leaf_text(alloc, Some(ty), inner.value)?)),
+            }
         }
         Some(
             Type::Tagged { .. }

@@ -4,7 +4,6 @@ use crate::command_line::Call;
 use crate::printer::inside;
 use rasn_dynamic::{Step, steps_of};
 use rasn_schema::{Value, View};
-use rasn_text::{Escaping, visible};
 use std::alloc::{AllocError, Global};
 
 /// Returns the part of a value to which a path leads: from the value, or else from the outermost of
@@ -55,7 +54,7 @@ fn part_after<'view, 'input>(
     }
 }
 
-/// Appends the parts of a value, in their order.
+/// Appends the parts of a value that hold others, in their order.
 fn push_parts<'view, 'input>(
     views: &mut Vec<View<'view, 'input>>,
     view: &View<'view, 'input>,
@@ -63,17 +62,38 @@ fn push_parts<'view, 'input>(
     if let Value::Items(values) | Value::Elements(values) = view.value {
         for index in 0..values.len() {
             if let Some(part) = view.at(index) {
-                views.push(part)?;
+                push_part(views, part)?;
             }
         }
-    } else if let Some((_, inner)) = inside(view) {
-        views.push(inner)?;
+    } else if let Some((_, part)) = inside(view) {
+        push_part(views, part)?;
     }
     Ok(())
 }
 
+/// Appends a part, if it holds others.
+fn push_part<'view, 'input>(
+    views: &mut Vec<View<'view, 'input>>,
+    part: View<'view, 'input>,
+) -> Result<(), AllocError> {
+    match part.value {
+        Value::Items(_) | Value::Elements(_) | Value::Chosen(_, _) => views.push(part),
+        Value::Boolean(_)
+        | Value::Null
+        | Value::Integer(_)
+        | Value::Bits(_)
+        | Value::Octets(_)
+        | Value::Text(_)
+        | Value::Units(_)
+        | Value::Arcs(_)
+        | Value::Instant(_)
+        | Value::Day(_)
+        | Value::Absent => Ok(()),
+    }
+}
+
 /// Returns these cells of a row of a table, each after a tab or, if the call asks for it, after a
-/// comma (RFC 4180), and the end of the line.
+/// comma, and the end of the line.
 ///
 /// # Errors
 /// `AllocError` if memory runs out.
@@ -87,16 +107,15 @@ pub(crate) fn row_text(alloc: Global, call: &Call, cells: &[String]) -> Result<S
     Ok(row)
 }
 
-/// Returns a text as it is in a table: without control characters, and between commas in quotation
-/// marks if it has one of these or a comma (RFC 4180 2).
+/// Returns a text without control characters as it is in a table: between commas in quotation marks
+/// if it has one of these or a comma (RFC 4180 2).
 ///
 /// # Errors
 /// `AllocError` if memory runs out.
 pub(crate) fn cell_text(alloc: Global, call: &Call, text: &str) -> Result<String, AllocError> {
-    let shown = visible(alloc, Escaping::Line, text)?;
-    if !call.is_csv || !shown.as_str().contains([',', '"'].as_slice()) {
-        return Ok(shown);
+    if !call.is_csv || !text.contains([',', '"'].as_slice()) {
+        return String::from_str(alloc, text);
     }
-    let doubled = shown.as_str().replace(alloc, "\"", "\"\"")?;
+    let doubled = text.replace(alloc, "\"", "\"\"")?;
     format!(in alloc; "\"{doubled}\"")
 }

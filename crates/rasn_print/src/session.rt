@@ -1,11 +1,11 @@
 //! Goes over the messages of inputs.
-ghost use Rattle.std.specs.Prelude.{◌≡◌, true};
+ghost use Rattle.std.specs.Prelude.{◌≡◌, ◌<◌, true, length};
 
 use crate::catalog::{Catalog, candidates_for};
 use crate::command_line::{Call, Work};
 use crate::dump::{Entries, Entry, entry_line, fault_text, first_encoding};
 use crate::fault::Fault;
-use crate::input::{Form, form_of, from_line, is_plain_text, why_not_hexadecimal, without_mark};
+use crate::input::{Form, form_of, form_of_line, is_plain_text, without_mark};
 use crate::known::Candidates;
 use crate::messages::{TRUST, TRUSTED};
 use crate::pasted::unindented;
@@ -226,25 +226,26 @@ impl<W: Write + Drop, E: Write + Drop> Session<'_, W, E> {
     /// Writes the lines of a large message, which is of this type.
     fn write_large(&mut self, shown: &Shown, octets: &[u8]) -> Result<(), Fault> {
         let alloc = self.alloc;
-        let known = self.catalog.known_for(alloc, self.call, shown.candidates)?;
+        let index = self.catalog.resolve(alloc, self.call, shown.candidates)?;
         let mut lines = Lines {
             output: &mut self.output,
             text: String::new(alloc),
             is_colored: self.is_colored,
         };
+        let known = self.catalog.known(index);
         write_large(&mut lines, alloc, known, shown, octets)
     }
 
-    /// Returns what messages are worked on with that may be of these types.
-    fn context(&mut self, candidates: Candidates) -> Result<Context<'_>, Fault>
-        ensures { self.new.is_refused ≡ self.old.is_refused }
+    /// Returns what messages are worked on with that may be of the types with this index.
+    fn context(&self, index: usize) -> Context<'_>
+        requires { index < length self.now.catalog.known.items }
     {
-        Ok(Context {
+        Context {
             alloc: self.alloc,
             call: self.call,
-            known: self.catalog.known_for(self.alloc, self.call, candidates)?,
+            known: self.catalog.known(index),
             is_colored: self.is_colored,
-        })
+        }
     }
 
     /// Returns what is printed for a message. While the types that are tried aren't resolved, the
@@ -252,18 +253,21 @@ impl<W: Write + Drop, E: Write + Drop> Session<'_, W, E> {
     fn answer(&mut self, input: &Input<'_>) -> Result<Answer, Fault>
         ensures { self.new.is_refused ≡ self.old.is_refused }
     {
-        let candidates = candidates_for(self.call, input.label);
-        if self.catalog.may_try_first(candidates)
-            && is_of_first(&self.context(Candidates::First)?, input)?
-        {
-            let candidates = if self.call.work == Work::Show {
-                Candidates::Labelled(0)
-            } else {
-                Candidates::First
-            };
-            return Ok(answer_of_first(&self.context(candidates)?, input)?);
+        let (alloc, call) = (self.alloc, self.call);
+        let candidates = candidates_for(call, input.label);
+        if self.catalog.may_try_first(candidates) {
+            let first = self.catalog.resolve(alloc, call, Candidates::First)?;
+            if is_of_first(&self.context(first), input)? {
+                let shown = if call.work == Work::Show {
+                    self.catalog.resolve(alloc, call, Candidates::Labelled(0))?
+                } else {
+                    first
+                };
+                return Ok(answer_of_first(&self.context(shown), input)?);
+            }
         }
-        Ok(answer_to(&self.context(candidates)?, input)?)
+        let index = self.catalog.resolve(alloc, call, candidates)?;
+        Ok(answer_to(&self.context(index), input)?)
     }
 
     /// Writes the first line of a table, if one is asked for: the names of its columns, which are the
@@ -277,13 +281,18 @@ impl<W: Write + Drop, E: Write + Drop> Session<'_, W, E> {
             return Ok(());
         }
         self.write_cell("message")?;
-        let row = row_text(self.alloc, call, call.paths.as_slice())?;
+        let mut cells = Vec::new(self.alloc);
+        for path in &call.paths {
+            cells.push(visible(self.alloc, Escaping::Line, path.as_str())?)?;
+        }
+        let row = row_text(self.alloc, call, cells.as_slice())?;
         self.write(row.as_bytes())
     }
 
     /// Writes the first cell of a row of a table.
     fn write_cell(&mut self, text: &str) -> Result<(), Fault> {
-        let cell = cell_text(self.alloc, self.call, text)?;
+        let text = visible(self.alloc, Escaping::Line, text)?;
+        let cell = cell_text(self.alloc, self.call, text.as_str())?;
         self.write(cell.as_bytes())
     }
 
@@ -333,8 +342,8 @@ impl<W: Write + Drop, E: Write + Drop> Session<'_, W, E> {
     /// Writes the line of an encoding.
     fn write_entry(&mut self, entry: &Entry<'_>) -> Result<(), Fault> {
         let alloc = self.alloc;
-        let context = self.context(Candidates::Nothing)?;
-        let line = entry_line(alloc, context.known, entry)?;
+        let index = self.catalog.resolve(alloc, self.call, Candidates::Nothing)?;
+        let line = entry_line(alloc, self.catalog.known(index), entry)?;
         self.write(printed(alloc, Escaping::Lines, line)?.as_bytes())
     }
 
@@ -371,13 +380,17 @@ impl<W: Write + Drop, E: Write + Drop> Session<'_, W, E> {
     fn line(&mut self, name: &str, index: usize, line: &[u8]) -> Result<(), Fault> {
         let (alloc, number) = (self.alloc, index.saturating_add(1));
         let line = without_mark(line);
-        let Some(octets) = from_line(alloc, self.call.work, line)? else {
-            let reason = why_not_hexadecimal(line, "neither hexadecimal nor base64");
-            let reason = Reason::of(alloc, &reason)?;
-            return self.refuse_line(name, number, slice::from_ref(&reason));
+        let form = form_of_line(alloc, self.call.work, line)?;
+        let octets = match &form {
+            Form::Octets | Form::Pem(_) => line,
+            Form::Text(octets) => octets.as_slice(),
+            Form::Wrong(reason) => {
+                let reason = Reason::of(alloc, reason)?;
+                return self.refuse_line(name, number, slice::from_ref(&reason));
+            }
         };
         let input = Input {
-            octets: octets.as_slice(),
+            octets,
             label: None,
             is_text: true,
         };
@@ -390,7 +403,7 @@ impl<W: Write + Drop, E: Write + Drop> Session<'_, W, E> {
                 }
                 self.write(&text)
             }
-            Answer::Large(shown) => self.write_large(&shown, octets.as_slice()),
+            Answer::Large(shown) => self.write_large(&shown, octets),
             Answer::Departures(reasons) => self.refuse_line(name, number, reasons.as_slice()),
             Answer::Refused(reason) => self.refuse_line(name, number, slice::from_ref(&reason)),
         }

@@ -19,7 +19,7 @@ use crate::refusal_text::{extra_from, text_of};
 use crate::types::{KnownType, MessageType};
 use base64::engine::general_purpose::STANDARD;
 use rasn_dynamic::{Refusal, WriteError, decode};
-use rasn_json::{JsonError, encode, to_json};
+use rasn_json::{JsonError, Layout, encode, to_json};
 use rasn_lint::{Departure, LintError, OpenTypes, check as check_der, lint};
 use rasn_schema::{Type, TypeId, Value, View, part_type, type_at};
 use rasn_text::{Escaping, is_hidden, visible};
@@ -511,10 +511,11 @@ impl Message<'_, '_> {
         }
         let mut lines = cells.as_slice().join(alloc, "\n")?;
         lines.push('\n')?;
-        Ok(Answer::Done(printed(alloc, Escaping::Lines, lines)?.into_bytes()))
+        Ok(Answer::Done(lines.into_bytes()))
     }
 
-    /// Returns the value of a part in a line: as JSON if that is asked for, or if it holds others.
+    /// Returns the value of a part in a line, in which nothing is hidden: as JSON if that is asked
+    /// for, or if it holds others.
     fn cell_of(
         &self,
         path: &str,
@@ -523,12 +524,19 @@ impl Message<'_, '_> {
         let (alloc, call) = (self.context.alloc, self.context.call);
         if !call.has_json {
             if let Some(text) = line_text(alloc, self.context.known, path, part)? {
-                return Ok(Ok(text));
+                return Ok(Ok(visible(alloc, Escaping::Line, text.as_str())?));
             }
         }
-        match to_json(alloc, part.schema, part.type_id, part.value, call.layout()) {
+        match to_json(
+            alloc,
+            part.schema,
+            part.type_id,
+            part.value,
+            Layout::Compact,
+        ) {
+            Ok(text) => Ok(Ok(printed(alloc, Escaping::Json, text)?)),
             Err(error) if error.is_out_of_memory() => Err(AllocError),
-            json => Ok(json),
+            Err(error) => Ok(Err(error)),
         }
     }
 

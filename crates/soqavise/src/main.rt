@@ -122,7 +122,7 @@ fn run_call(rt: &HostRuntime, call: &Call) -> Result<u8, Fault> {
     if call.work == Work::Types {
         let warnings = warnings_of(alloc, &read)?;
         eprint!(rt; "{warnings}").map_err(Fault::of_write)?;
-        let are_whole = run_types(rt, &read, call.type_name.as_ref())? && faults.is_empty();
+        let are_whole = run_types(rt, call, &read)? && faults.is_empty();
         return Ok(if are_whole { 0 } else { REFUSED });
     }
     run_work(rt, call, Catalog::new(alloc, Some(&read)))
@@ -145,14 +145,14 @@ pub(crate) fn read_text(rt: &HostRuntime, name: &str) -> io::Result<String> {
 }
 
 /// Prints the types of the modules, or one of them. Returns whether each has a schema.
-fn run_types(rt: &HostRuntime, read: &Modules<'_>, name: Option<&String>) -> Result<bool, Fault> {
+fn run_types(rt: &HostRuntime, call: &Call, read: &Modules<'_>) -> Result<bool, Fault> {
     let mut output = BufWriter::new(rt.alloc(), rt.stdout()).map_err(Fault::of_write)?;
-    let are_whole = match name {
+    let are_whole = match &call.type_name {
         Some(name) => {
-            print_notation(rt.alloc(), read, name, &mut output)?;
+            print_notation(rt.alloc(), read, name.as_str(), &mut output)?;
             true
         }
-        None => print_types(rt.alloc(), read, &mut output)?,
+        None => print_types(rt.alloc(), read, !call.modules.is_empty(), &mut output)?,
     };
     output.flush().map_err(Fault::of_write)?;
     Ok(are_whole)
