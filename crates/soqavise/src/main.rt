@@ -1,16 +1,16 @@
 //! Shows, checks and converts messages of any type of ASN.1.
 #![tactic(auto)]
 
-mod rust;
+mod generate;
 mod words;
 
 use clap::Command;
+use generate::{generate_command, run_generate};
 use rasn_compiler::{Modules, Source};
 use rasn_print::{
     Call, Catalog, ColorChoice, Fault, Session, Work, call_of, command, modules_of, print_notation,
     print_types, warnings_of,
 };
-use rust::{run_rust, rust_command};
 use std::alloc::{AllocError, Global};
 use std::fs::{self, File};
 use std::io::{BufReader, BufWriter, ErrorKind, IsTerminal, Read, Write};
@@ -26,6 +26,9 @@ const USAGE: u8 = 2;
 
 /// Why a file isn't opened whose name isn't UTF-8.
 const NO_NAME: &str = "the name isn't UTF-8";
+
+/// What is said of the name that a command had until 0.31.
+const RENAMED: &str = "the command is called `generate`: what it writes is Rattle";
 
 /// The name of standard input among files.
 const STDIN: &str = "-";
@@ -53,12 +56,17 @@ fn failed(rt: &HostRuntime, text: &str) -> ExitCode {
 fn run(rt: &HostRuntime) -> Result<u8, Fault> {
     let alloc = rt.alloc();
     let words = words_of(rt)?;
+    if let [_, word, ..] = words.as_slice() {
+        if word.as_str() == "rust" {
+            return Err(Fault::of_call(alloc, &RENAMED));
+        }
+    }
     let matches = match whole_command(alloc)?.try_get_matches_from(words.as_slice()) {
         Ok(matches) => matches,
         Err(error) => return refuse_words(rt, words.as_slice(), error),
     };
-    if let Some(("rust", inner)) = matches.subcommand() {
-        return run_rust(rt, inner);
+    if let Some(("generate", inner)) = matches.subcommand() {
+        return run_generate(rt, inner);
     }
     match call_of(alloc, &matches)? {
         Some(call) => run_call(rt, &call),
@@ -68,8 +76,8 @@ fn run(rt: &HostRuntime) -> Result<u8, Fault> {
 
 /// Returns the program's command with all subcommands.
 fn whole_command<'a>(alloc: Global) -> Result<Command<'a>, AllocError> {
-    let rust = rust_command(alloc)?;
-    command(alloc)?.subcommand(rust)
+    let generate = generate_command(alloc)?;
+    command(alloc)?.subcommand(generate)
 }
 
 /// Prints why these words are no call, or the help that they ask for: what is said of the same words

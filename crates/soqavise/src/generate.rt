@@ -1,4 +1,4 @@
-//! The subcommand `rust`, which writes a crate of typed Rattle for the types of modules.
+//! The subcommand `generate`, which writes a crate of typed Rattle for the types of modules.
 
 use crate::words::{is_marked, name_shown};
 use crate::{NO_NAME, REFUSED, USAGE, read_text, sources_of, unreadable, unreadable_as};
@@ -30,7 +30,7 @@ const WITHOUT: &str = "soqavise: `soqavise types --module FILE` prints which typ
     and --type TYPE writes a crate without them\n";
 
 /// Returns the subcommand: its arguments and help.
-pub(crate) fn rust_command<'a>(alloc: Global) -> Result<Command<'a>, AllocError> {
+pub(crate) fn generate_command<'a>(alloc: Global) -> Result<Command<'a>, AllocError> {
     let files = Arg::new(alloc, "file")
         .value_name("FILE")
         .num_args(1..)
@@ -41,11 +41,13 @@ pub(crate) fn rust_command<'a>(alloc: Global) -> Result<Command<'a>, AllocError>
         .value_name("FOLDER")
         .required(true)
         .help("The folder of the crate, which has its name; files of these types are overwritten");
-    Command::new(alloc, "rust")
+    Command::new(alloc, "generate")
         .about(
             "Writes the types of modules as a crate of Rattle, and prints its line of crates.txt",
         )
-        .after_help("Example: soqavise rust My.asn1 --out crates/mine --message Certificate=der")
+        .after_help(
+            "Example: soqavise generate My.asn1 --out crates/mine --message Certificate=der",
+        )
         .arg(files)?
         .arg(out)?
         .arg(repeated(alloc, "message", "TYPE=RULES", MESSAGE))?
@@ -65,7 +67,7 @@ fn repeated<'a>(alloc: Global, name: &'a str, value: &'a str, help: &'a str) -> 
 }
 
 /// Runs the subcommand. Returns its exit status.
-pub(crate) fn run_rust(rt: &HostRuntime, matches: &ArgMatches<'_>) -> Result<u8, Fault> {
+pub(crate) fn run_generate(rt: &HostRuntime, matches: &ArgMatches<'_>) -> Result<u8, Fault> {
     let folder = matches.get_str("out").unwrap_or("");
     let name = crate_name(folder);
     if !is_crate_name(name) {
