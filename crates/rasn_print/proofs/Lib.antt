@@ -1,3 +1,4 @@
 pub mod Offsets
+pub mod Queries
 pub mod Verdicts
 pub mod Worked
