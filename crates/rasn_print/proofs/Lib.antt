@@ -2,3 +2,4 @@ pub mod Offsets
 pub mod Queries
 pub mod Verdicts
 pub mod Worked
+pub mod WorkedQueries

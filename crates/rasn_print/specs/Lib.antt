@@ -5,3 +5,4 @@ pub mod Reading
 pub mod Reasons
 pub mod Verdicts
 pub mod Worked
+pub mod WorkedQueries
