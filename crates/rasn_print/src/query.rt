@@ -103,7 +103,10 @@ fn push_part<'view, 'input>(
     ensures { OnOk result ((view : View) → IsAmong views.new.items view → IsAmong views.old.items view ⊎ (view ≡ part)) }
 {
     match part.value {
-        Value::Items(_) | Value::Elements(_) | Value::Chosen(_, _) => views.push(part),
+        Value::Items(_) | Value::Elements(_) | Value::Chosen(_, _) => {
+            views.push(part)?;
+            Ok(())
+        }
         Value::Boolean(_)
         | Value::Null
         | Value::Integer(_)
