@@ -129,11 +129,11 @@ fn value_of<'input>(
     id: TypeId,
     octets: &'input [u8],
 ) -> Result<Option<Value<'input>>, AllocError> {
-    found(decode(place.alloc, place.rule, schema, id, octets))
+    if_read(decode(place.alloc, place.rule, schema, id, octets))
 }
 
 /// Returns what is read, unless memory ran out.
-fn found<T>(outcome: Result<T, DecodeError>) -> Result<Option<T>, AllocError> {
+fn if_read<T>(outcome: Result<T, DecodeError>) -> Result<Option<T>, AllocError> {
     match outcome {
         Ok(value) => Ok(Some(value)),
         Err(error) if error.is_out_of_memory() => Err(AllocError),
@@ -178,7 +178,7 @@ fn inside<'input>(
     ty: &Type,
     octets: &'input [u8],
 ) -> Result<Option<(usize, &'input [u8])>, AllocError> {
-    let Some(entry) = found(entry_of(alloc, octets, 0, 0))? else {
+    let Some(entry) = if_read(entry_of(alloc, octets, 0, 0))? else {
         return Ok(None);
     };
     match ty {
@@ -239,7 +239,7 @@ fn write_elements<W: Write + Drop>(
     octets: &[u8],
 ) -> Result<(), CallFault> {
     let alloc = place.alloc;
-    let Some(entry) = found(entry_of(alloc, octets, 0, 0))? else {
+    let Some(entry) = if_read(entry_of(alloc, octets, 0, 0))? else {
         return Ok(());
     };
     print_title(&mut lines.text, place)?;
@@ -283,7 +283,7 @@ fn components_in<'input>(
     }
     let mut unknown = Vec::new(alloc);
     let mut next = 0;
-    if let Some(entry) = found(entry_of(alloc, octets, 0, 0))? {
+    if let Some(entry) = if_read(entry_of(alloc, octets, 0, 0))? {
         let mut rest = Rest::of(&entry);
         for _ in octets {
             if rest.is_empty() {
@@ -309,7 +309,7 @@ fn components_in<'input>(
 
 /// Returns the tag of the encoding with which octets begin.
 fn tag_of(alloc: Global, octets: &[u8]) -> Result<Tag, AllocError> {
-    match found(entry_of(alloc, octets, 0, 0))? {
+    match if_read(entry_of(alloc, octets, 0, 0))? {
         Some(entry) => Ok(entry.tag),
         None => Ok(Tag::EOC),
     }
@@ -431,7 +431,7 @@ fn write_open<W: Write + Drop>(
     let (alloc, known) = (place.alloc, place.known);
     if place.levels > MESSAGE_LEVELS {
         if let Some(inner) = known.find(Form::Open, place.hint.unwrap_or("")) {
-            if found(check(alloc, place.rule, &known.schema, inner, octets))?.is_some() {
+            if if_read(check(alloc, place.rule, &known.schema, inner, octets))?.is_some() {
                 let part = LinePlace {
                     hint: None,
                     ..place
