@@ -24,7 +24,7 @@ use Rattle.rasn_dynamic.specs.Sets.{PassesUnknown}
 use Rattle.rasn_dynamic.specs.Calls.{LeavesAllOut}
 use Rattle.rasn_dynamic.specs.Faults.{IsNextAlternative, octets_after}
 use Rattle.rasn_dynamic.specs.Parts.{IsAbsentHere}
-use Rattle.rasn_dynamic.specs.Listed.{is_wanted, wanted_of, capped, GoesInside, GoesInto, InTurn, UnknownListed, PartListed, ComponentListed, ComponentAt, ComponentsListed, MemberListed, MembersListed, ElementsListed, AlternativeListed, ContentsListed, InsideListed, ValueListed, PartsInside, Inside, Lists, IsNoted, IsCut, IsFinished, IsInside, IsOutside}
+use Rattle.rasn_dynamic.specs.Listed.{is_wanted, wanted_of, capped, depth_at, GoesInside, GoesInto, InTurn, UnknownListed, PartListed, ComponentListed, ComponentAt, ComponentsListed, MemberListed, MembersListed, ElementsListed, AlternativeListed, ContentsListed, InsideListed, ValueListed, PartsInside, Inside, Lists, IsNoted, IsCut, IsFinished, IsInside, IsOutside}
 
 -- Of any value that is returned.
 pub if_any : {T E : Type 0} {P : Type 0} (r : Result T E) → P → IfOk r (λ v. P)
@@ -133,7 +133,7 @@ at_seam xs y ys =
 
 -- It has these fields, and these octets.
 abbrev IsPart : TypeId → ℕ → ℕ → ℕ → List ℕ → Span → Type 0
-IsPart id k levels left octets f = (f.id ≡ id) × (f.index ≡ k) × (f.levels ≡ levels) × (f.left ≡ left) × (f.octets.now ≡ octets)
+IsPart id k levels left octets f = (f.id ≡ id) × (f.index ≡ k) × (f.depth ≡ depth_at levels) × (f.left ≡ left) × (f.octets.now ≡ octets)
 
 -- What was appended, if there is a list.
 abbrev Appended : Spans → Spans → List Span → Type 0
@@ -149,7 +149,7 @@ module _ (id : TypeId) (k levels place : ℕ) (octets front rest : List ℕ) (o 
   Own = IsPart id k levels (capped o.after (length octets)) front
 
   own : Span
-  own = record { id = id; index = k; levels = levels; left = capped o.after (length octets); octets = record { ref_ptr = (0, 0); now = front } }
+  own = record { id = id; index = k; depth = depth_at levels; left = capped o.after (length octets); octets = record { ref_ptr = (0, 0); now = front } }
 
   own_is : Own own
   unfolding own
@@ -168,23 +168,23 @@ module _ (id : TypeId) (k levels place : ℕ) (octets front rest : List ℕ) (o 
       let u = noted.2 w.0 w.1 in
       let later : List Span = wanted_of a.wanted inside in
       elim u.2 [
-        | inl (yes, x) ↦
+        | inl (listed, x) ↦
             let e = x.1 in
             let all : z.0.items ≡ u.0.items ++ e ∷ later = w.2 ∙ (ap (λ v. v ++ later) x.2 ∙ append_assoc u.0.items (e ∷ []) later) in
             let f = z.3 u.0.items e later all (sym x.0) in
-            let wanted : is_wanted o.wanted f.0.id.0 ≡ true = ap (λ (i : TypeId). is_wanted o.wanted i.0) (f.2 ∙ x.3) ∙ yes in (
+            let wanted : is_wanted o.wanted f.0.id.0 ≡ true = ap (λ (i : TypeId). is_wanted o.wanted i.0) (f.2 ∙ x.3) ∙ listed in (
               f.0,
               (f.2 ∙ x.3, f.3 ∙ x.4, f.4 ∙ x.5, f.5 ∙ x.6, f.6 front (x.7 ∙ cut)),
               u.0,
               u.1,
               f.1 ∙ ap (λ v. u.0.items ++ v) (ap (λ v. f.0 ∷ wanted_of v inside) noted.1 ∙ sym (wanted_here o.wanted f.0 inside wanted)),
             )
-        | inr (no, far, same) ↦ (
+        | inr (unlisted, far, same) ↦ (
           own,
           own_is,
           u.0,
           u.1,
-          z.2 (let s = short_list z.0 in omega (arith, s, far)) ∙ (w.2 ∙ (ap (λ v. v ++ later) same ∙ ap (λ v. u.0.items ++ v) (ap (λ v. wanted_of v inside) noted.1 ∙ sym (unwanted_here o.wanted own inside (own_id ∙ no))))),
+          z.2 (let s = short_list z.0 in omega (arith, s, far)) ∙ (w.2 ∙ (ap (λ v. v ++ later) same ∙ ap (λ v. u.0.items ++ v) (ap (λ v. wanted_of v inside) noted.1 ∙ sym (unwanted_here o.wanted own inside (own_id ∙ unlisted))))),
         )
       ]
 

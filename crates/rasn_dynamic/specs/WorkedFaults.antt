@@ -88,8 +88,8 @@ pub record WorkedFaults : Type 0 where
   pub not_read_with_another_index : (types : List «Type») (keep : Bool) (outer : NextPart) (s : State) (before : Spans) (index : ℕ) (r : Result Value DecodeError) (new : State) (fault : Option UnreadValue) (after : Spans)
       → (outer.index ≡ index → ⊥) → ReadsWithin types keep outer s before [] index r new fault after → ⊥
   pub value_in_its_place_is_returned : (u : Unit {0}) (v : Value) (e : DecodeError) → outcome (Ok u) v e ≡ Ok v
-  pub error_in_its_place_is_returned : (r : Refused) (v : Value) (e : DecodeError) → outcome (Err r) v e ≡ Err e
-  pub no_value_of_what_is_refused : (r : Refused) (v w : Value) (e : DecodeError) → outcome (Err r) v e ≡ Ok w → ⊥
+  pub error_in_its_place_is_returned : (r : Refused) (v : Value) (e : DecodeError) → outcome {S = Unit {0}} (Err r) v e ≡ Err e
+  pub no_value_of_what_is_refused : (r : Refused) (v w : Value) (e : DecodeError) → outcome {S = Unit {0}} (Err r) v e ≡ Ok w → ⊥
   pub no_error_of_what_is_read : (u : Unit {0}) (v : Value) (e d : DecodeError) → outcome (Ok u) v e ≡ Err d → ⊥
   pub value_is_reported : (v : Value) (e : DecodeError) → reported (Ok v) e ≡ Ok v
   pub error_is_reported : (r : Refused) (e : DecodeError) → reported {T = Value} (Err r) e ≡ Err e

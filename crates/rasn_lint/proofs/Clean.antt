@@ -23,7 +23,7 @@ use Rattle.rasn_dynamic.specs.Walk.{AreOpenPartsOf, AreParts, ArePartsOf, is_ope
 use Rattle.rasn_dynamic.specs.declared.message.ListedParts.{ListedParts}
 use Rattle.rasn_dynamic.proofs.Checked.{read_first}
 use Rattle.rasn_dynamic.proofs.SameParts.{as_parts}
-use Rattle.rasn_lint.specs.declared.by_schema.LintError.TheVariants.{Remainder}
+use Rattle.rasn_lint.specs.declared.by_schema.LintError.TheVariants.{Refused, Remainder}
 use Rattle.rasn_lint.specs.declared.by_schema.OpenTypes.{OpenTypes}
 use Rattle.rasn_lint.specs.declared.by_schema.OpenTypes.TheVariants.{Unexamined, Examined}
 use Rattle.rasn_lint.specs.declared.departure.Departure.{Departure}
@@ -226,6 +226,12 @@ last_rest types id input ps a =
 pub nothing_left : (types : List «Type») (id : ℕ) (input : List ℕ) (ps : MessageParts) (a : ArePartsOf types Ber id input ps) (empty : Bool) (rest : List ℕ) → rest ≡ rest_after ps.list.items input
     → empty ≡ (length rest == 0) → empty ≡ true → a.last.rest ≡ []
 nothing_left types id input ps a empty rest e is some = sym (last_rest types id input ps a) ∙ (sym e ∙ none_of rest (grind (arith, nat_tests)))
+
+pub not_read_by_ber : (types : List «Type») (id : ℕ) (input : List ℕ) (r : Refusal) → IsOutOfMemory r.error.kind ⊎ IsLocated types Ber id input r
+    → IsOutOfMemory r.error.kind ⊎ IsCheckedUpTo Ber (shape_of types id) input (Err r.error) → IsNoLint types id input (Refused r)
+not_read_by_ber types id input r (inl m) x = inl m
+not_read_by_ber types id input r (inr at) (inl m) = inl m
+not_read_by_ber types id input r (inr at) (inr x) = inr (at, x)
 
 pub followed : (types : List «Type») (id : ℕ) (input rest : List ℕ) (ps : MessageParts) → ArePartsOf types Ber id input ps → rest ≡ rest_after ps.list.items input → rest ≢ [] → IsNoLint types id input (Remainder (length rest))
 followed types id input rest ps a e some =

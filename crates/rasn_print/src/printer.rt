@@ -1,9 +1,11 @@
 //! Values as indented lines with the names of a schema.
+ghost use Rattle.std.specs.Prelude.{◌≡◌, IfSome};
+ghost use Rattle.rasn_print.specs.Queries.{IsAround};
 
 pub(crate) mod large;
 
 use crate::dump::{End, Entries, Entry, primitive_text, push_entry, push_indent};
-use crate::fault::Fault;
+use crate::fault::CallFault;
 use crate::identifiers::{identifier_name, identifier_text};
 use crate::known::{Form, Known};
 use crate::leaf::{leaf_text, string_text};
@@ -30,7 +32,7 @@ const MESSAGE_LEVELS: usize = 128;
 
 /// Where a value is printed.
 #[derive(Clone, Copy)]
-struct Place<'a> {
+struct LinePlace<'a> {
     alloc: Global,
     known: &'a Known<'a>,
     /// The rules by which octets inside open types are read.
@@ -45,10 +47,10 @@ struct Place<'a> {
     hint: Option<&'static str>,
 }
 
-impl<'a> Place<'a> {
+impl<'a> LinePlace<'a> {
     /// Returns where a message with this title is printed.
-    fn of(alloc: Global, known: &'a Known<'a>, rule: Codec, title: &'a str) -> Place<'a> {
-        Place {
+    fn of(alloc: Global, known: &'a Known<'a>, rule: Codec, title: &'a str) -> LinePlace<'a> {
+        LinePlace {
             alloc,
             known,
             rule,
@@ -73,7 +75,7 @@ pub fn value_text(
     wanted: &MessageType<'_>,
     value: &Value<'_>,
 ) -> Result<String, AllocError> {
-    let place = Place::of(alloc, known, wanted.rule, wanted.name);
+    let place = LinePlace::of(alloc, known, wanted.rule, wanted.name);
     let mut text = String::new(alloc);
     print(&mut text, place, &wanted.schema.view(wanted.root, value))?;
     Ok(text)
@@ -89,8 +91,8 @@ pub(crate) fn write_large<W: Write + Drop>(
     known: &Known<'_>,
     shown: &Shown,
     octets: &[u8],
-) -> Result<(), Fault> {
-    let place = Place::of(alloc, known, shown.rule, shown.name.as_str());
+) -> Result<(), CallFault> {
+    let place = LinePlace::of(alloc, known, shown.rule, shown.name.as_str());
     write_message(lines, place, &known.schema, shown.root, octets)
 }
 
@@ -105,7 +107,7 @@ pub(crate) fn line_text(
     title: &str,
     view: &View<'_, '_>,
 ) -> Result<Option<String>, AllocError> {
-    let place = Place::of(alloc, known, Codec::Ber, title);
+    let place = LinePlace::of(alloc, known, Codec::Ber, title);
     let mut title = String::from_str(alloc, title)?;
     let (inner, shown) = innermost(&mut title, place, view)?;
     if shown.is_some() {
@@ -133,7 +135,7 @@ pub(crate) fn line_text(
 }
 
 /// Appends a line of a title and a value.
-fn push_line<T: fmt::Display>(text: &mut String, place: Place<'_>, value: &T) -> Appended {
+fn push_line<T: fmt::Display>(text: &mut String, place: LinePlace<'_>, value: &T) -> Appended {
     let title = place.title;
     push_indent(text, place.depth)?;
     writeln!(text, "{title}: {value}")
@@ -142,7 +144,7 @@ fn push_line<T: fmt::Display>(text: &mut String, place: Place<'_>, value: &T) ->
 /// Appends the lines of a value. The names of the alternatives that it is of CHOICEs in one another
 /// follow the title.
 #[cycle(print)]
-fn print(text: &mut String, place: Place<'_>, view: &View<'_, '_>) -> Appended {
+fn print(text: &mut String, place: LinePlace<'_>, view: &View<'_, '_>) -> Appended {
     if place.levels == 0 {
         return push_line(text, place, &"..");
     }
@@ -150,7 +152,7 @@ fn print(text: &mut String, place: Place<'_>, view: &View<'_, '_>) -> Appended {
     let mut title = String::from_str(place.alloc, place.title)?;
     let (inner, shown) = innermost(&mut title, place, view)?;
     let title = title.as_str();
-    let place = Place {
+    let place = LinePlace {
         levels,
         title,
         ..place
@@ -165,7 +167,7 @@ fn print(text: &mut String, place: Place<'_>, view: &View<'_, '_>) -> Appended {
 /// appends the names of the alternatives to the title.
 fn innermost<'view, 'input>(
     title: &mut String,
-    place: Place<'_>,
+    place: LinePlace<'_>,
     view: &View<'view, 'input>,
 ) -> Result<(View<'view, 'input>, Option<String>), AllocError> {
     let mut inner = view.schema.view(view.type_id, view.value);
@@ -188,7 +190,10 @@ fn innermost<'view, 'input>(
 /// if it is the only one. Returns `None` of other values.
 pub(crate) fn inside<'view, 'input>(
     view: &View<'view, 'input>,
-) -> Option<(&'view str, View<'view, 'input>)> {
+) -> Option<(&'view str, View<'view, 'input>)>
+    ensures part { IfSome result (λ found. IsAround view.now.schema.now.types.items view.now.type_id.0 view.now.value.now found.1.type_id found.1.value.now) }
+    ensures schema { IfSome result (λ found. found.1.schema.now ≡ view.now.schema.now) }
+{
     let ty = type_at(view.schema.types(), view.type_id)?;
     if let Type::Tagged { inner, .. } = ty {
         return Some(("", view.schema.view(*inner, view.value)));
@@ -205,7 +210,7 @@ pub(crate) fn inside<'view, 'input>(
 
 /// Appends the lines of a value that is in no CHOICE and no explicit tag any more.
 #[cycle(print)]
-fn print_by(text: &mut String, place: Place<'_>, view: &View<'_, '_>) -> Appended {
+fn print_by(text: &mut String, place: LinePlace<'_>, view: &View<'_, '_>) -> Appended {
     let value = view.value;
     let Some(ty) = type_at(view.schema.types(), view.type_id) else {
         return Ok(());
@@ -253,7 +258,7 @@ fn parts_of<'value, 'input>(value: &'value Value<'input>) -> &'value [Value<'inp
 #[cycle(print)]
 fn print_parts<'view>(
     text: &mut String,
-    place: Place<'_>,
+    place: LinePlace<'_>,
     schema: &'view Schema,
     ty: &Type,
     values: &'view [Value<'_>],
@@ -273,7 +278,7 @@ fn print_parts<'view>(
             Some(name) => String::from_str(place.alloc, name)?,
             None => format!(in place.alloc; "[{index}]")?,
         };
-        let part = Place {
+        let part = LinePlace {
             depth: place.depth.saturating_add(1),
             title: title.as_str(),
             hint,
@@ -287,7 +292,7 @@ fn print_parts<'view>(
 /// Appends the line of the title of components or elements.
 fn print_heading(
     text: &mut String,
-    place: Place<'_>,
+    place: LinePlace<'_>,
     is_list: bool,
     values: &[Value<'_>],
 ) -> Appended {
@@ -301,7 +306,7 @@ fn print_heading(
 }
 
 /// Appends a line of a title.
-fn print_title(text: &mut String, place: Place<'_>) -> Appended {
+fn print_title(text: &mut String, place: LinePlace<'_>) -> Appended {
     let title = place.title;
     push_indent(text, place.depth)?;
     writeln!(text, "{title}")
@@ -310,7 +315,12 @@ fn print_title(text: &mut String, place: Place<'_>) -> Appended {
 /// Appends the lines of octets: of the value whose encoding they are, if the identifier beside them
 /// says its type.
 #[cycle(print)]
-fn print_octets(text: &mut String, place: Place<'_>, value: &Value<'_>, form: Form) -> Appended {
+fn print_octets(
+    text: &mut String,
+    place: LinePlace<'_>,
+    value: &Value<'_>,
+    form: Form,
+) -> Appended {
     if let Value::Bits(bits) = value {
         let mut octets = Vec::new(place.alloc);
         bits.as_bitstr().append_to(&mut octets)?;
@@ -326,7 +336,7 @@ fn print_octets(text: &mut String, place: Place<'_>, value: &Value<'_>, form: Fo
 #[cycle(print)]
 fn print_held(
     text: &mut String,
-    place: Place<'_>,
+    place: LinePlace<'_>,
     value: &Value<'_>,
     form: Form,
     octets: &[u8],
@@ -348,7 +358,7 @@ fn print_held(
             let hint = None;
             print(
                 text,
-                Place { hint, ..place },
+                LinePlace { hint, ..place },
                 &known.schema.view(id, &value),
             )
         }
@@ -363,7 +373,7 @@ fn print_held(
 }
 
 /// Appends the lines of unknown values, each of which is an encoding.
-fn print_additions(text: &mut String, place: Place<'_>, value: &Value<'_>) -> Appended {
+fn print_additions(text: &mut String, place: LinePlace<'_>, value: &Value<'_>) -> Appended {
     let Value::Items(values) = value else {
         return Ok(());
     };
@@ -391,7 +401,7 @@ fn are_entries(alloc: Global, octets: &[u8]) -> Result<bool, AllocError> {
 }
 
 /// Appends the lines of an encoding of a type that isn't known.
-fn print_encoding(text: &mut String, place: Place<'_>, octets: &[u8]) -> Appended {
+fn print_encoding(text: &mut String, place: LinePlace<'_>, octets: &[u8]) -> Appended {
     if !are_entries(place.alloc, octets)? {
         return push_line(text, place, &Hexadecimal::new(octets));
     }
@@ -407,7 +417,7 @@ fn print_encoding(text: &mut String, place: Place<'_>, octets: &[u8]) -> Appende
 }
 
 /// Appends the line of an encoding in an open type, whose title the outermost one has.
-fn print_entry(text: &mut String, place: Place<'_>, entry: &Entry<'_>) -> Appended {
+fn print_entry(text: &mut String, place: LinePlace<'_>, entry: &Entry<'_>) -> Appended {
     push_indent(text, place.depth.saturating_add(entry.depth))?;
     if entry.depth == 0 {
         let title = place.title;
@@ -460,7 +470,7 @@ fn is_name(schema: &Schema, id: TypeId) -> bool {
 
 /// Returns a value in one line, if it reads better so: distinguished names and addresses.
 fn short_text(
-    place: Place<'_>,
+    place: LinePlace<'_>,
     title: &str,
     view: &View<'_, '_>,
 ) -> Result<Option<String>, AllocError> {

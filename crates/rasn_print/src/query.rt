@@ -1,4 +1,8 @@
 //! Values of parts that are asked for by their paths.
+ghost use Rattle.std.specs.Prelude.{◌≡◌, ◌≢◌, ◌⊎◌, IfOk, IfSome, OnOk};
+ghost use Rattle.rasn_schema.specs.declared.value.Value.{Absent};
+ghost use Rattle.rasn_schema.specs.declared.view.View.{View};
+ghost use Rattle.rasn_print.specs.Queries.{IsStepTo, LeadTo, Holds, IsAskedFor, IsAmong};
 
 use crate::command_line::Call;
 use crate::printer::inside;
@@ -16,7 +20,9 @@ pub(crate) fn part_at<'view, 'input>(
     alloc: Global,
     view: &View<'view, 'input>,
     path: &str,
-) -> Result<Option<View<'view, 'input>>, AllocError> {
+) -> Result<Option<View<'view, 'input>>, AllocError>
+    ensures { IfOk result (λ found. IfSome found (IsAskedFor view.now path.now)) }
+{
     let Some(steps) = steps_of(alloc, path)? else {
         return Ok(None);
     };
@@ -35,17 +41,32 @@ pub(crate) fn part_at<'view, 'input>(
     Ok(None)
 }
 
+/// Returns the part of a value to which a step leads.
+fn part_by<'view, 'input>(
+    view: &View<'view, 'input>,
+    step: &Step<'_>,
+) -> Option<View<'view, 'input>>
+    ensures part { IfSome result (λ part. IsStepTo view.now.schema.now.types.items step.now view.now.type_id.0 view.now.value.now part.type_id part.value.now) }
+    ensures schema { IfSome result (λ part. part.schema.now ≡ view.now.schema.now) }
+{
+    match step {
+        Step::Name(name) => view.get(name),
+        Step::Index(index) => view.at(*index),
+    }
+}
+
 /// Returns the part of a value to which steps lead, if it is present.
 fn part_after<'view, 'input>(
     view: &View<'view, 'input>,
     steps: &[Step<'_>],
-) -> Option<View<'view, 'input>> {
+) -> Option<View<'view, 'input>>
+    ensures part { IfSome result (λ part. LeadTo view.now.schema.now.types.items steps.now view.now.type_id.0 view.now.value.now part.type_id.0 part.value.now) }
+    ensures present { IfSome result (λ part. part.value.now ≢ Absent) }
+    ensures schema { IfSome result (λ part. part.schema.now ≡ view.now.schema.now) }
+{
     let mut part = view.schema.view(view.type_id, view.value);
     for step in steps {
-        part = match step {
-            Step::Name(name) => part.get(name)?,
-            Step::Index(index) => part.at(*index)?,
-        };
+        part = part_by(&part, step)?;
     }
     if matches!(part.value, Value::Absent) {
         None
@@ -58,7 +79,10 @@ fn part_after<'view, 'input>(
 fn push_parts<'view, 'input>(
     views: &mut Vec<View<'view, 'input>>,
     view: &View<'view, 'input>,
-) -> Result<(), AllocError> {
+) -> Result<(), AllocError>
+    ensures { OnOk result ((part : View) → IsAmong views.new.items part → IsAmong views.old.items part
+        ⊎ ((part.schema.now ≡ view.now.schema.now) × Holds view.now.schema.now.types.items view.now.type_id.0 view.now.value.now part.type_id part.value.now)) }
+{
     if let Value::Items(values) | Value::Elements(values) = view.value {
         for index in 0..values.len() {
             if let Some(part) = view.at(index) {
@@ -75,9 +99,14 @@ fn push_parts<'view, 'input>(
 fn push_part<'view, 'input>(
     views: &mut Vec<View<'view, 'input>>,
     part: View<'view, 'input>,
-) -> Result<(), AllocError> {
+) -> Result<(), AllocError>
+    ensures { OnOk result ((view : View) → IsAmong views.new.items view → IsAmong views.old.items view ⊎ (view ≡ part)) }
+{
     match part.value {
-        Value::Items(_) | Value::Elements(_) | Value::Chosen(_, _) => views.push(part),
+        Value::Items(_) | Value::Elements(_) | Value::Chosen(_, _) => {
+            views.push(part)?;
+            Ok(())
+        }
         Value::Boolean(_)
         | Value::Null
         | Value::Integer(_)

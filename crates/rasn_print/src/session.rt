@@ -4,7 +4,7 @@ ghost use Rattle.std.specs.Prelude.{◌≡◌, ◌<◌, true, length};
 use crate::catalog::{Catalog, candidates_for};
 use crate::command_line::{Call, Work};
 use crate::dump::{Entries, Entry, entry_line, fault_text, first_encoding};
-use crate::fault::Fault;
+use crate::fault::CallFault;
 use crate::input::{Form, form_of, form_of_line, is_plain_text, without_mark};
 use crate::known::Candidates;
 use crate::messages::{TRUST, TRUSTED};
@@ -41,21 +41,21 @@ pub struct Session<'a, W: Write + Drop, E: Write + Drop> {
 
 impl<W: Write + Drop, E: Write + Drop> Session<'_, W, E> {
     /// Writes octets.
-    fn write(&mut self, octets: &[u8]) -> Result<(), Fault>
+    fn write(&mut self, octets: &[u8]) -> Result<(), CallFault>
         ensures { self.new.is_refused ≡ self.old.is_refused }
     {
-        self.output.write_all(octets).map_err(Fault::of_write)
+        self.output.write_all(octets).map_err(CallFault::of_write)
     }
 
     /// Writes why a message of the input with this name is refused.
-    fn refuse<T: fmt::Display>(&mut self, name: &str, reason: &T) -> Result<(), Fault>
+    fn refuse<T: fmt::Display>(&mut self, name: &str, reason: &T) -> Result<(), CallFault>
         ensures { self.new.is_refused ≡ true }
     {
         self.is_refused = true;
         let line = line_of(self.alloc, name, reason)?;
         self.refusals
             .write_all(line.as_bytes())
-            .map_err(Fault::of_write)
+            .map_err(CallFault::of_write)
     }
 
     /// Flushes the output.
@@ -63,10 +63,10 @@ impl<W: Write + Drop, E: Write + Drop> Session<'_, W, E> {
     /// # Errors
     /// `Write` if it can't be written, `Closed` if its reader has gone, `Memory` if memory runs
     /// out.
-    pub fn flush(&mut self) -> Result<(), Fault>
+    pub fn flush(&mut self) -> Result<(), CallFault>
         ensures { self.new.is_refused ≡ self.old.is_refused }
     {
-        self.output.flush().map_err(Fault::of_write)
+        self.output.flush().map_err(CallFault::of_write)
     }
 
     /// Works on the messages of an input. A message that is refused sets `is_refused` and is no
@@ -74,7 +74,7 @@ impl<W: Write + Drop, E: Write + Drop> Session<'_, W, E> {
     ///
     /// # Errors
     /// As `flush`.
-    pub fn input(&mut self, name: &str, octets: &[u8]) -> Result<(), Fault> {
+    pub fn input(&mut self, name: &str, octets: &[u8]) -> Result<(), CallFault> {
         let alloc = self.alloc;
         let plain = unindented(alloc, without_mark(octets))?;
         let text = match &plain {
@@ -101,7 +101,7 @@ impl<W: Write + Drop, E: Write + Drop> Session<'_, W, E> {
         octets: &[u8],
         is_text: bool,
         is_headed: bool,
-    ) -> Result<(), Fault> {
+    ) -> Result<(), CallFault> {
         if !self.call.is_stream {
             return self.message(name, octets, None, is_text, is_headed);
         }
@@ -130,7 +130,7 @@ impl<W: Write + Drop, E: Write + Drop> Session<'_, W, E> {
         text: &[u8],
         blocks: &[Block<'_>],
         is_headed: bool,
-    ) -> Result<(), Fault> {
+    ) -> Result<(), CallFault> {
         let alloc = self.alloc;
         let is_headed = is_headed || (self.call.work == Work::Show && blocks.len() > 1);
         if blocks.is_empty() {
@@ -181,7 +181,7 @@ impl<W: Write + Drop, E: Write + Drop> Session<'_, W, E> {
         label: Option<&str>,
         is_text: bool,
         is_headed: bool,
-    ) -> Result<(), Fault> {
+    ) -> Result<(), CallFault> {
         if self.call.work == Work::Dump {
             return self.dump(name, octets);
         }
@@ -215,16 +215,16 @@ impl<W: Write + Drop, E: Write + Drop> Session<'_, W, E> {
     }
 
     /// Writes the name of a message, if that is wanted.
-    fn write_name(&mut self, name: &str, is_headed: bool) -> Result<(), Fault> {
+    fn write_name(&mut self, name: &str, is_headed: bool) -> Result<(), CallFault> {
         if !is_headed {
             return Ok(());
         }
         let heading = visible(self.alloc, Escaping::Line, name)?;
-        writeln!(self.output, "{heading}").map_err(Fault::of_write)
+        writeln!(self.output, "{heading}").map_err(CallFault::of_write)
     }
 
     /// Writes the lines of a large message, which is of this type.
-    fn write_large(&mut self, shown: &Shown, octets: &[u8]) -> Result<(), Fault> {
+    fn write_large(&mut self, shown: &Shown, octets: &[u8]) -> Result<(), CallFault> {
         let alloc = self.alloc;
         let index = self.catalog.resolve(alloc, self.call, shown.candidates)?;
         let mut lines = Lines {
@@ -250,7 +250,7 @@ impl<W: Write + Drop, E: Write + Drop> Session<'_, W, E> {
 
     /// Returns what is printed for a message. While the types that are tried aren't resolved, the
     /// first of them is tried alone.
-    fn answer(&mut self, input: &Input<'_>) -> Result<Answer, Fault>
+    fn answer(&mut self, input: &Input<'_>) -> Result<Answer, CallFault>
         ensures { self.new.is_refused ≡ self.old.is_refused }
     {
         let (alloc, call) = (self.alloc, self.call);
@@ -275,7 +275,7 @@ impl<W: Write + Drop, E: Write + Drop> Session<'_, W, E> {
     ///
     /// # Errors
     /// As `flush`.
-    pub fn begin(&mut self) -> Result<(), Fault> {
+    pub fn begin(&mut self) -> Result<(), CallFault> {
         let call = self.call;
         if call.work != Work::Table {
             return Ok(());
@@ -290,14 +290,14 @@ impl<W: Write + Drop, E: Write + Drop> Session<'_, W, E> {
     }
 
     /// Writes the first cell of a row of a table.
-    fn write_cell(&mut self, text: &str) -> Result<(), Fault> {
+    fn write_cell(&mut self, text: &str) -> Result<(), CallFault> {
         let text = visible(self.alloc, Escaping::Line, text)?;
         let cell = cell_text(self.alloc, self.call, text.as_str())?;
         self.write(cell.as_bytes())
     }
 
     /// Writes a line for each departure of a message from DER, and how many there are.
-    fn write_departures(&mut self, name: &str, reasons: &[Reason]) -> Result<(), Fault>
+    fn write_departures(&mut self, name: &str, reasons: &[Reason]) -> Result<(), CallFault>
         ensures { self.new.is_refused ≡ true }
     {
         let alloc = self.alloc;
@@ -318,12 +318,12 @@ impl<W: Write + Drop, E: Write + Drop> Session<'_, W, E> {
     ///
     /// # Errors
     /// As `flush`.
-    pub fn example(&mut self) -> Result<(), Fault> {
+    pub fn example(&mut self) -> Result<(), CallFault> {
         self.message("example", &[], None, true, false)
     }
 
     /// Prints the encodings of octets, each as soon as it is read.
-    fn dump(&mut self, name: &str, octets: &[u8]) -> Result<(), Fault> {
+    fn dump(&mut self, name: &str, octets: &[u8]) -> Result<(), CallFault> {
         let mut entries = Entries::new(self.alloc, octets);
         // Each encoding has an octet of its own.
         for _ in octets {
@@ -340,7 +340,7 @@ impl<W: Write + Drop, E: Write + Drop> Session<'_, W, E> {
     }
 
     /// Writes the line of an encoding.
-    fn write_entry(&mut self, entry: &Entry<'_>) -> Result<(), Fault> {
+    fn write_entry(&mut self, entry: &Entry<'_>) -> Result<(), CallFault> {
         let alloc = self.alloc;
         let index = self.catalog.resolve(alloc, self.call, Candidates::Nothing)?;
         let line = entry_line(alloc, self.catalog.known(index), entry)?;
@@ -353,7 +353,7 @@ impl<W: Write + Drop, E: Write + Drop> Session<'_, W, E> {
     ///
     /// # Errors
     /// As `flush`.
-    pub fn lines<R: BufRead + Drop>(&mut self, name: &str, reader: R) -> Result<(), Fault> {
+    pub fn lines<R: BufRead + Drop>(&mut self, name: &str, reader: R) -> Result<(), CallFault> {
         for (index, line) in reader.split(self.alloc, b'\n').enumerate() {
             match line {
                 Ok(line) if without_mark(&line).starts_with(b"-----BEGIN ") => {
@@ -367,9 +367,9 @@ impl<W: Write + Drop, E: Write + Drop> Session<'_, W, E> {
     }
 
     /// Writes why the input with this name can't be read.
-    fn unreadable(&mut self, name: &str, error: &io::Error) -> Result<(), Fault> {
+    fn unreadable(&mut self, name: &str, error: &io::Error) -> Result<(), CallFault> {
         if error.kind() == ErrorKind::OutOfMemory {
-            return Err(Fault::Memory);
+            return Err(CallFault::Memory);
         }
         let reason = format!(in self.alloc; "cannot read: {error}")?;
         self.refuse(name, &reason)
@@ -377,7 +377,7 @@ impl<W: Write + Drop, E: Write + Drop> Session<'_, W, E> {
 
     /// Works on the line with this index: prints its answer, `ok` if that is empty, or why it is
     /// refused.
-    fn line(&mut self, name: &str, index: usize, line: &[u8]) -> Result<(), Fault> {
+    fn line(&mut self, name: &str, index: usize, line: &[u8]) -> Result<(), CallFault> {
         let (alloc, number) = (self.alloc, index.saturating_add(1));
         let line = without_mark(line);
         let form = form_of_line(alloc, self.call.work, line)?;
@@ -411,7 +411,12 @@ impl<W: Write + Drop, E: Write + Drop> Session<'_, W, E> {
 
     /// Writes for which reasons the line with this number is refused: as objects of JSON if that is
     /// asked for, or else in a line.
-    fn refuse_line(&mut self, name: &str, number: usize, reasons: &[Reason]) -> Result<(), Fault>
+    fn refuse_line(
+        &mut self,
+        name: &str,
+        number: usize,
+        reasons: &[Reason],
+    ) -> Result<(), CallFault>
         ensures { self.new.is_refused ≡ true }
     {
         let alloc = self.alloc;
@@ -427,7 +432,7 @@ impl<W: Write + Drop, E: Write + Drop> Session<'_, W, E> {
         }
         if has_json {
             let text = lines.as_slice().join(alloc, "\n")?;
-            return writeln!(self.output, "{text}").map_err(Fault::of_write);
+            return writeln!(self.output, "{text}").map_err(CallFault::of_write);
         }
         let text = lines.as_slice().join(alloc, "; ")?;
         if self.call.work.prints_data() {
@@ -435,7 +440,7 @@ impl<W: Write + Drop, E: Write + Drop> Session<'_, W, E> {
             return self.refuse(name.as_str(), &text);
         }
         let text = visible(alloc, Escaping::Line, text.as_str())?;
-        writeln!(self.output, "{text}").map_err(Fault::of_write)
+        writeln!(self.output, "{text}").map_err(CallFault::of_write)
     }
 }
 

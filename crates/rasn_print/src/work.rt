@@ -125,7 +125,7 @@ pub(crate) fn answer_of_first(context: &Context<'_>, input: &Input<'_>) -> Answe
 
 /// Returns a known type, with the rules of the call or its own.
 fn type_of<'a>(context: &Context<'a>, of: &KnownType<'a>) -> MessageType<'a> {
-    MessageType::new(&context.known.schema, of, context.call.rules)
+    MessageType::new(&context.known.schema, of, context.call.rule)
 }
 
 /// Returns what is printed for a message of the first type that reads it, or else why it is refused

@@ -1,7 +1,7 @@
 //! Parts of messages, by their paths.
 
 use crate::faults::TYPES;
-use rasn_dynamic::{Part, Step, component_at, find_part, parts_of, path_named};
+use rasn_dynamic::{Part, Step, component_at, find_part, open_parts_of, parts_of, path_named};
 use rasn_schema::constants::types_of;
 use rasn_schema::{Schema, TypeId};
 use rasn_types::types::Codec;
@@ -171,6 +171,34 @@ fn unknown_components_are_parts(rt: HostRuntime) {
         (&[0], 5, 0, 3),
     ];
     assert!(rt; are_listed(rt.alloc(), 8, &[0x31, 6, 2, 1, 7, 1, 1, 0xFF], named) == Some(true));
+}
+
+/// Returns whether these parts of a message are of an open type or unknown, each with how many
+/// octets there are from its start on, its type and its length, and this rest follows the message.
+fn are_open(
+    alloc: Global,
+    id: usize,
+    octets: &[u8],
+    expected: &[(usize, usize, usize)],
+    rest: &[u8],
+) -> Option<bool> {
+    let schema = Schema::new(types_of(alloc, TYPES).ok()?).ok()?;
+    let parts = open_parts_of(alloc, Codec::Ber, &schema, TypeId(id), octets).ok()?;
+    for (part, (left, id, len)) in parts.list.iter().zip(expected) {
+        if part.left != *left || part.id != TypeId(*id) || part.octets.len() != *len {
+            return Some(false);
+        }
+    }
+    Some(parts.list.len() == expected.len() && parts.rest == rest)
+}
+
+// The octets are counted by hand.
+#[test]
+fn open_values_are_listed_alone(rt: HostRuntime) {
+    assert!(rt; are_open(rt.alloc(), 8, MIXED, &[(11, 6, 2), (6, 6, 3)], &[]) == Some(true));
+    assert!(rt; are_open(rt.alloc(), 7, EXTENDED, &[(5, 6, 5)], &[]) == Some(true));
+    assert!(rt; are_open(rt.alloc(), 3, LIST, &[], &[]) == Some(true));
+    assert!(rt; are_open(rt.alloc(), 0, &[1, 1, 0, 5, 0], &[], &[5, 0]) == Some(true));
 }
 
 // X.690 8.13: each of CHOICEs in one another is a part, with all of the octets.

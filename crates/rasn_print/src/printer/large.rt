@@ -3,11 +3,11 @@
 //! whole, except that an identifier inside a large component says nothing of the components after it.
 
 use super::{
-    MESSAGE_LEVELS, Place, hint_of, identifier_in, is_name, print, print_encoding, print_heading,
-    print_title,
+    LinePlace, MESSAGE_LEVELS, hint_of, identifier_in, is_name, print, print_encoding,
+    print_heading, print_title,
 };
 use crate::dump::{Entry, entry_of, first_encoding, is_ended};
-use crate::fault::Fault;
+use crate::fault::CallFault;
 use crate::known::Form;
 use crate::work::lines_shown;
 use rasn_dynamic::{check, decode};
@@ -39,12 +39,12 @@ pub(crate) struct Lines<'w, W: Write + Drop> {
 
 impl<W: Write + Drop> Lines<'_, W> {
     /// Writes the lines that haven't been written yet.
-    fn flush(&mut self, alloc: Global) -> Result<(), Fault> {
+    fn flush(&mut self, alloc: Global) -> Result<(), CallFault> {
         let text = mem::replace(&mut self.text, String::new(alloc));
         let shown = lines_shown(alloc, self.is_colored, text)?;
         self.output
             .write_all(shown.as_bytes())
-            .map_err(Fault::of_write)
+            .map_err(CallFault::of_write)
     }
 }
 
@@ -55,11 +55,11 @@ impl<W: Write + Drop> Lines<'_, W> {
 /// `Write` or `Closed` if they can't be written, `Memory` if memory runs out.
 pub(super) fn write_message<W: Write + Drop>(
     lines: &mut Lines<'_, W>,
-    place: Place<'_>,
+    place: LinePlace<'_>,
     schema: &Schema,
     id: TypeId,
     octets: &[u8],
-) -> Result<(), Fault> {
+) -> Result<(), CallFault> {
     write(lines, place, schema, id, octets)?;
     lines.flush(place.alloc)
 }
@@ -68,17 +68,17 @@ pub(super) fn write_message<W: Write + Drop>(
 #[cycle(write)]
 fn write<W: Write + Drop>(
     lines: &mut Lines<'_, W>,
-    place: Place<'_>,
+    place: LinePlace<'_>,
     schema: &Schema,
     id: TypeId,
     octets: &[u8],
-) -> Result<(), Fault> {
+) -> Result<(), CallFault> {
     if octets.len() < LARGE || place.levels == 0 {
         return write_whole(lines, place, schema, id, octets);
     }
     let mut title = String::from_str(place.alloc, place.title)?;
     let (id, octets) = innermost(&mut title, place, schema, id, octets)?;
-    let part = Place {
+    let part = LinePlace {
         levels: place.levels - 1,
         title: title.as_str(),
         ..place
@@ -108,11 +108,11 @@ fn write<W: Write + Drop>(
 /// Writes the lines of a value that is read whole.
 fn write_whole<W: Write + Drop>(
     lines: &mut Lines<'_, W>,
-    place: Place<'_>,
+    place: LinePlace<'_>,
     schema: &Schema,
     id: TypeId,
     octets: &[u8],
-) -> Result<(), Fault> {
+) -> Result<(), CallFault> {
     if let Some(value) = value_of(place, schema, id, octets)? {
         print(&mut lines.text, place, &schema.view(id, &value))?;
     }
@@ -124,16 +124,16 @@ fn write_whole<W: Write + Drop>(
 
 /// Returns the value of this type that octets encode.
 fn value_of<'input>(
-    place: Place<'_>,
+    place: LinePlace<'_>,
     schema: &Schema,
     id: TypeId,
     octets: &'input [u8],
 ) -> Result<Option<Value<'input>>, AllocError> {
-    found(decode(place.alloc, place.rule, schema, id, octets))
+    if_read(decode(place.alloc, place.rule, schema, id, octets))
 }
 
 /// Returns what is read, unless memory ran out.
-fn found<T>(outcome: Result<T, DecodeError>) -> Result<Option<T>, AllocError> {
+fn if_read<T>(outcome: Result<T, DecodeError>) -> Result<Option<T>, AllocError> {
     match outcome {
         Ok(value) => Ok(Some(value)),
         Err(error) if error.is_out_of_memory() => Err(AllocError),
@@ -145,7 +145,7 @@ fn found<T>(outcome: Result<T, DecodeError>) -> Result<Option<T>, AllocError> {
 /// title.
 fn innermost<'input>(
     title: &mut String,
-    place: Place<'_>,
+    place: LinePlace<'_>,
     schema: &Schema,
     id: TypeId,
     octets: &'input [u8],
@@ -178,7 +178,7 @@ fn inside<'input>(
     ty: &Type,
     octets: &'input [u8],
 ) -> Result<Option<(usize, &'input [u8])>, AllocError> {
-    let Some(entry) = found(entry_of(alloc, octets, 0, 0))? else {
+    let Some(entry) = if_read(entry_of(alloc, octets, 0, 0))? else {
         return Ok(None);
     };
     match ty {
@@ -233,13 +233,13 @@ impl<'input> Rest<'input> {
 #[cycle(write)]
 fn write_elements<W: Write + Drop>(
     lines: &mut Lines<'_, W>,
-    place: Place<'_>,
+    place: LinePlace<'_>,
     schema: &Schema,
     element: TypeId,
     octets: &[u8],
-) -> Result<(), Fault> {
+) -> Result<(), CallFault> {
     let alloc = place.alloc;
-    let Some(entry) = found(entry_of(alloc, octets, 0, 0))? else {
+    let Some(entry) = if_read(entry_of(alloc, octets, 0, 0))? else {
         return Ok(());
     };
     print_title(&mut lines.text, place)?;
@@ -250,7 +250,7 @@ fn write_elements<W: Write + Drop>(
             break;
         }
         let title = format!(in alloc; "[{index}]")?;
-        let part = Place {
+        let part = LinePlace {
             depth: place.depth.saturating_add(1),
             title: title.as_str(),
             ..place
@@ -271,7 +271,7 @@ struct Found<'input> {
 
 /// Returns the components of a value of a SEQUENCE or SET with these.
 fn components_in<'input>(
-    place: Place<'_>,
+    place: LinePlace<'_>,
     types: &[Type],
     ty: &Type,
     octets: &'input [u8],
@@ -283,7 +283,7 @@ fn components_in<'input>(
     }
     let mut unknown = Vec::new(alloc);
     let mut next = 0;
-    if let Some(entry) = found(entry_of(alloc, octets, 0, 0))? {
+    if let Some(entry) = if_read(entry_of(alloc, octets, 0, 0))? {
         let mut rest = Rest::of(&entry);
         for _ in octets {
             if rest.is_empty() {
@@ -309,7 +309,7 @@ fn components_in<'input>(
 
 /// Returns the tag of the encoding with which octets begin.
 fn tag_of(alloc: Global, octets: &[u8]) -> Result<Tag, AllocError> {
-    match found(entry_of(alloc, octets, 0, 0))? {
+    match if_read(entry_of(alloc, octets, 0, 0))? {
         Some(entry) => Ok(entry.tag),
         None => Ok(Tag::EOC),
     }
@@ -330,11 +330,11 @@ fn component_for(types: &[Type], components: &[Component], next: usize, tag: Tag
 #[cycle(write)]
 fn write_components<W: Write + Drop>(
     lines: &mut Lines<'_, W>,
-    place: Place<'_>,
+    place: LinePlace<'_>,
     schema: &Schema,
     ty: &Type,
     octets: &[u8],
-) -> Result<(), Fault> {
+) -> Result<(), CallFault> {
     let alloc = place.alloc;
     let found = components_in(place, schema.types(), ty, octets)?;
     let is_headed = write_heading(lines, place, schema, ty, &found)?;
@@ -343,7 +343,7 @@ fn write_components<W: Write + Drop>(
         if index == 0 && is_headed {
             continue;
         }
-        let part = Place {
+        let part = LinePlace {
             depth: place.depth.saturating_add(1),
             title: component.name.as_str(),
             hint,
@@ -368,7 +368,7 @@ fn write_components<W: Write + Drop>(
 
 /// Returns the value of the component with this index, if it is there and isn't large.
 fn small_value<'input>(
-    place: Place<'_>,
+    place: LinePlace<'_>,
     schema: &Schema,
     ty: &Type,
     found: &Found<'input>,
@@ -386,7 +386,7 @@ fn small_value<'input>(
 /// in it.
 fn write_heading<W: Write + Drop>(
     lines: &mut Lines<'_, W>,
-    place: Place<'_>,
+    place: LinePlace<'_>,
     schema: &Schema,
     ty: &Type,
     found: &Found<'_>,
@@ -403,7 +403,7 @@ fn write_heading<W: Write + Drop>(
 
 /// Returns the name of the identifier that says what the open types among components are.
 fn hint_in(
-    place: Place<'_>,
+    place: LinePlace<'_>,
     schema: &Schema,
     ty: &Type,
     found: &Found<'_>,
@@ -423,16 +423,16 @@ fn hint_in(
 #[cycle(write)]
 fn write_open<W: Write + Drop>(
     lines: &mut Lines<'_, W>,
-    place: Place<'_>,
+    place: LinePlace<'_>,
     schema: &Schema,
     id: TypeId,
     octets: &[u8],
-) -> Result<(), Fault> {
+) -> Result<(), CallFault> {
     let (alloc, known) = (place.alloc, place.known);
     if place.levels > MESSAGE_LEVELS {
         if let Some(inner) = known.find(Form::Open, place.hint.unwrap_or("")) {
-            if found(check(alloc, place.rule, &known.schema, inner, octets))?.is_some() {
-                let part = Place {
+            if if_read(check(alloc, place.rule, &known.schema, inner, octets))?.is_some() {
+                let part = LinePlace {
                     hint: None,
                     ..place
                 };

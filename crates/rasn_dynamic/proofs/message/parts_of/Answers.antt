@@ -13,3 +13,9 @@ returns-in-Err-clause-located c = elim c.in-Err.ensures.refused [
   | inl m ↦ inl m
   | inr x ↦ inr x.0
 ]
+
+pub returns-in-Err-clause-exact : goal.returns-in-Err-clause-exact
+returns-in-Err-clause-exact c = elim c.in-Err.ensures.refused [
+  | inl m ↦ inl m
+  | inr x ↦ inr x.1
+]

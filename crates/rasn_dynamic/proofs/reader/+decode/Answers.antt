@@ -23,6 +23,7 @@ use Rattle.rasn_de.proofs.Constructed.Steps.{rules_same}
 use Rattle.rasn_de.proofs.Constructed.Optional.{strict_before, strict_after}
 use Rattle.rasn_de.proofs.OwnTypes.Parts.{call_keeps}
 use Rattle.rasn_schema.specs.declared.types.Alternative.{Alternative}
+use Rattle.rasn_schema.specs.declared.value.Value.{Value}
 use Rattle.rasn_schema.specs.Trees.{tree_of}
 use Rattle.rasn_schema.specs.Shapes.{numbers_of, shape_of_type, type_by, alternatives_by, choice_among, components_by, key_of, presence_in, AreReadable, IsReadable}
 use Rattle.rasn_schema.proofs.Presences.{always_by}
@@ -112,7 +113,7 @@ pub decode_at-returns-in-Err-clause-told : goal.decode_at-returns-in-Err-clause-
 decode_at-returns-in-Err-clause-told g t c =
     let unread : DecodesTree (shape_of_type c.args.types.now.list.now c.args.types.now.levels c.args.id.0) c.args.decoder.now (Err c.decode_type.new.walk.error) c.decode_type.new.decoder = rw (shape_below c.args.types.now.list.now c.args.types.now.levels (c.args.types.now.levels - 1) c.args.id.0 c.in-Some.ty.now (let n = c.in-Some.ensures.0 in omega arith) c.in-Some.ensures.1) c.in-Err.ensures.reads in
     marked c.args.types.now.list.now c.args.types.now.levels c.args.id _ c.args.decoder.now _ _ _ (λ f s. entered c.args.types.now.list.now c.args.types.now.levels c.args.id.0 (c.args.types.now.levels - 1) c.in-Some.ty.now c.args.decoder.now (let n = c.in-Some.ensures.0 in omega arith) (sym c.in-Some.ensures.1) _ f (c.in-Err.ensures.told f s)) c.mark-in-Err.ensures c.octets_left-left.ensures unread.exact
-    (found_itself c.args.types.now.list.now c.args.types.now.levels c.args.id.0 (c.args.types.now.levels - 1) c.in-Some.ty.now c.args.decoder.now _ (let n = c.in-Some.ensures.0 in omega arith) (sym c.in-Some.ensures.1) (Err c.decode_type.new.walk.error) c.in-Err.ensures.itself)
+    (found_itself {T = Value} c.args.types.now.list.now c.args.types.now.levels c.args.id.0 (c.args.types.now.levels - 1) c.in-Some.ty.now c.args.decoder.now _ (let n = c.in-Some.ensures.0 in omega arith) (sym c.in-Some.ensures.1) (Err c.decode_type.new.walk.error) c.in-Err.ensures.itself)
 
 -- ---- a type
 
@@ -195,33 +196,33 @@ decode_inside-decode_part-requires g t c = λ κs o. (search rules, (search rule
 
 pub decode_inside-returns-in_err-decode_part-in-Tagged : goal.decode_inside-returns-in_err-decode_part-in-Tagged
 decode_inside-returns-in_err-decode_part-in-Tagged g t c =
-    rw (residual _ c.from_residual.ensures.1) (rw c.in-Tagged.is (tagged_contents c.args.types.now.list.now c.args.types.now.levels g.M.Made.KEEP c.args.decoder.now c.args.walk.now.spans (Err c.decode_part.new.walk.error) c.decode_part.new.decoder c.decode_part.new.walk.fault c.decode_part.new.walk.spans _ _ c.in_err-decode_part.ensures.reads (λ k. tt) c.in_err-decode_part.ensures.rules c.in_err-decode_part.ensures.told tt))
+    rw (residual _ c.from_residual.ensures.1) (rw c.in-Tagged.is (tagged_contents c.args.types.now.list.now c.args.types.now.levels g.M.Made.KEEP c.args.decoder.now c.args.walk.now.spans (Err c.decode_part.new.walk.error) c.decode_part.new.decoder c.decode_part.new.walk.fault c.decode_part.new.walk.spans _ _ c.in_err-decode_part-in-Tagged.ensures.reads (λ k. tt) c.in_err-decode_part-in-Tagged.ensures.rules c.in_err-decode_part-in-Tagged.ensures.told tt))
 
 pub decode_inside-returns-in_ok-decode_part-in-Tagged : goal.decode_inside-returns-in_ok-decode_part-in-Tagged
 decode_inside-returns-in_ok-decode_part-in-Tagged g t c =
-    rw c.in-Tagged.is (tagged_contents c.args.types.now.list.now c.args.types.now.levels g.M.Made.KEEP c.args.decoder.now c.args.walk.now.spans (Ok c.decode_part.new.out) c.decode_part.new.decoder c.decode_part.new.walk.fault c.decode_part.new.walk.spans _ _ c.in_ok-decode_part.ensures.reads c.in_ok-decode_part.ensures.fits tt c.in_ok-decode_part.ensures.told c.in_ok-decode_part.ensures.listed)
+    rw c.in-Tagged.is (tagged_contents c.args.types.now.list.now c.args.types.now.levels g.M.Made.KEEP c.args.decoder.now c.args.walk.now.spans (Ok c.decode_part.new.out) c.decode_part.new.decoder c.decode_part.new.walk.fault c.decode_part.new.walk.spans _ _ c.in_ok-decode_part-in-Tagged.ensures.reads c.in_ok-decode_part-in-Tagged.ensures.fits tt c.in_ok-decode_part-in-Tagged.ensures.told c.in_ok-decode_part-in-Tagged.ensures.listed)
 
 pub decode_inside-put_components-requires : goal.decode_inside-put_components-requires
 decode_inside-put_components-requires g t c = λ κs o. (search rules, (search rules, (lawful_parts (shape_of_type c.args.types.now.list.now c.args.types.now.levels) _ (seq_lawful _ _ (subst (λ n. IsReadable (type_by (shape_of_type c.args.types.now.list.now c.args.types.now.levels) n)) c.in-Sequence.is c.requires.lawful)), c.requires.clear)))
 
 pub decode_inside-returns-in_err-put_components-in-Sequence : goal.decode_inside-returns-in_err-put_components-in-Sequence
 decode_inside-returns-in_err-put_components-in-Sequence g t c =
-    rw (residual _ c.from_residual-in_err-put_components.ensures.1) (rw c.in-Sequence.is (sequence_contents c.args.types.now.list.now c.args.types.now.levels g.M.Made.KEEP c.args.decoder.now c.args.walk.now.spans (Err c.put_components.new.walk.error) c.put_components.new.decoder c.put_components.new.walk.fault c.put_components.new.walk.spans _ _ c.in_err-put_components.ensures))
+    rw (residual _ c.from_residual-in_err-put_components-in-Sequence.ensures.1) (rw c.in-Sequence.is (sequence_contents c.args.types.now.list.now c.args.types.now.levels g.M.Made.KEEP c.args.decoder.now c.args.walk.now.spans (Err c.put_components.new.walk.error) c.put_components.new.decoder c.put_components.new.walk.fault c.put_components.new.walk.spans _ _ c.in_err-put_components-in-Sequence.ensures))
 
 pub decode_inside-returns-in_ok-put_components-in-Sequence : goal.decode_inside-returns-in_ok-put_components-in-Sequence
 decode_inside-returns-in_ok-put_components-in-Sequence g t c =
-    rw c.in-Sequence.is (sequence_contents c.args.types.now.list.now c.args.types.now.levels g.M.Made.KEEP c.args.decoder.now c.args.walk.now.spans (Ok c.put_components.new.out) c.put_components.new.decoder c.put_components.new.walk.fault c.put_components.new.walk.spans _ _ c.in_ok-put_components.ensures)
+    rw c.in-Sequence.is (sequence_contents c.args.types.now.list.now c.args.types.now.levels g.M.Made.KEEP c.args.decoder.now c.args.walk.now.spans (Ok c.put_components.new.out) c.put_components.new.decoder c.put_components.new.walk.fault c.put_components.new.walk.spans _ _ c.in_ok-put_components-in-Sequence.ensures)
 
 pub decode_inside-put_set_components-requires : goal.decode_inside-put_set_components-requires
 decode_inside-put_set_components-requires g t c = λ κs o. (search rules, (search rules, (named_lawful (shape_of_type c.args.types.now.list.now c.args.types.now.levels) c.in-Set.tag c.in-Set.components.items _ refl (subst (λ n. IsReadable (type_by (shape_of_type c.args.types.now.list.now c.args.types.now.levels) n)) c.in-Set.is c.requires.lawful), c.requires.clear)))
 
 pub decode_inside-returns-in_err-put_set_components-in-Set : goal.decode_inside-returns-in_err-put_set_components-in-Set
 decode_inside-returns-in_err-put_set_components-in-Set g t c =
-    rw (residual _ c.from_residual-in_err-put_set_components.ensures.1) (rw c.in-Set.is (set_contents c.args.types.now.list.now c.args.types.now.levels g.M.Made.KEEP c.args.decoder.now c.args.walk.now.spans (Err c.put_set_components.new.walk.error) c.put_set_components.new.decoder c.put_set_components.new.walk.fault c.put_set_components.new.walk.spans _ _ _ c.in_err-put_set_components.ensures))
+    rw (residual _ c.from_residual-in_err-put_set_components-in-Set.ensures.1) (rw c.in-Set.is (set_contents c.args.types.now.list.now c.args.types.now.levels g.M.Made.KEEP c.args.decoder.now c.args.walk.now.spans (Err c.put_set_components.new.walk.error) c.put_set_components.new.decoder c.put_set_components.new.walk.fault c.put_set_components.new.walk.spans _ _ _ c.in_err-put_set_components-in-Set.ensures))
 
 pub decode_inside-returns-in_ok-put_set_components-in-Set : goal.decode_inside-returns-in_ok-put_set_components-in-Set
 decode_inside-returns-in_ok-put_set_components-in-Set g t c =
-    rw c.in-Set.is (set_contents c.args.types.now.list.now c.args.types.now.levels g.M.Made.KEEP c.args.decoder.now c.args.walk.now.spans (Ok c.put_set_components.new.out) c.put_set_components.new.decoder c.put_set_components.new.walk.fault c.put_set_components.new.walk.spans _ _ _ c.in_ok-put_set_components.ensures)
+    rw c.in-Set.is (set_contents c.args.types.now.list.now c.args.types.now.levels g.M.Made.KEEP c.args.decoder.now c.args.walk.now.spans (Ok c.put_set_components.new.out) c.put_set_components.new.decoder c.put_set_components.new.walk.fault c.put_set_components.new.walk.spans _ _ _ c.in_ok-put_set_components-in-Set.ensures)
 
 pub decode_inside-put_elements-requires : goal.decode_inside-put_elements-requires
 decode_inside-put_elements-requires g t c = λ κs o. (search rules, (search rules, (list_lawful _ _ c.in-SequenceOf.constraints.size (subst (λ n. IsReadable (type_by (shape_of_type c.args.types.now.list.now c.args.types.now.levels) n)) c.in-SequenceOf.is c.requires.lawful), (c.requires.short, c.requires.clear))))

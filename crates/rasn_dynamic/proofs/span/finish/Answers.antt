@@ -6,7 +6,7 @@ use Rattle.rasn_dynamic.proofs.span.finish.Goals as goal
 
 pub returns-then-place-len : goal.returns-then-place-len
 returns-then-place-len c =
-    (refl, refl, λ m q. (c.in-Some.list, c.in-Some.is, (λ far. ap (λ (v : Vec Span Global). v.items) (same_list m c.in-Some.list (sym q ∙ c.in-Some.is))), λ front e more is at. absurd (let n = ap length is ∙ length-append front (e ∷ more) in omega (arith, n, at, c.len.ensures, c.if-place-len.true))))
+    (refl, refl, λ m q. (c.in-Some.list, c.in-Some.is, (λ far. ap (λ (v : Vec Span Global). v.items) (same_list m c.in-Some.list (sym q))), λ front e more is at. absurd (let n = ap length is ∙ length-append front (e ∷ more) in omega (arith, n, at, c.len.ensures, c.if-place-len.true))))
 
 pub returns : goal.returns
 returns c = (

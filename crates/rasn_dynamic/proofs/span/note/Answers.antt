@@ -6,7 +6,7 @@ use Rattle.rasn_dynamic.proofs.Listed.{same_list}
 use Rattle.rasn_dynamic.proofs.span.note.Goals as goal
 
 pub returns-then-not-is_wanted : goal.returns-then-not-is_wanted
-returns-then-not-is_wanted c = (refl, refl, λ m q. (m, q, inr (sym c.is_wanted.ensures ∙ c.if-not-is_wanted.false, refl, refl)))
+returns-then-not-is_wanted c = (refl, refl, λ m q. (m, q, inr (sym c.is_wanted.ensures ∙ c.if-not-is_wanted.true, refl, refl)))
 
 pub returns : goal.returns
 returns c = (
@@ -18,15 +18,17 @@ returns c = (
         room.0,
         room.1,
         inl (
-          sym c.is_wanted.ensures ∙ c.if-not-is_wanted.true,
-          c.len-place.ensures ∙ (c.in-Some.list.ok.0 ∙ ap length room.2),
-          e,
-          subst (λ (v : Vec Span Global). v.items ≡ c.in-Some.list.items ++ e ∷ []) (same_list _ m q) c.push_reserved.ensures.items ∙ ap (λ z. z ++ e ∷ []) room.2,
-          refl,
-          refl,
-          refl,
-          subst (λ a. c.saturating_add-left.result ≡ capped a (length c.args.octets.now)) c.make_room.ensures.0 c.saturating_add-left.ensures,
-          refl,
+          sym c.is_wanted.ensures ∙ c.if-not-is_wanted.false,
+          (
+            c.len-place.ensures ∙ (c.in-Some.list.ok.0 ∙ ap length room.2),
+            e,
+            subst (λ (v : Vec Span Global). v.items ≡ c.in-Some.list.items ++ e ∷ []) (same_list _ m q) c.push_reserved.ensures.items ∙ ap (λ z. z ++ e ∷ []) room.2,
+            refl,
+            refl,
+            refl,
+            subst (λ a. c.saturating_add-left.result ≡ capped a (length c.args.octets.now)) c.make_room.ensures.0 c.saturating_add-left.ensures,
+            refl,
+          ),
         ),
       ),
 )
