@@ -27,7 +27,7 @@ _soqavise_files() {
 
 _soqavise() {
     local word=${COMP_WORDS[COMP_CWORD]} before=${COMP_WORDS[COMP_CWORD - 1]} options='--help'
-    local commands='show check lint json encode normalise types dump get table rust help'
+    local commands='show check lint json encode normalise types dump get table generate help'
     case ${COMP_WORDS[1]} in
         show) options+=' --offsets --color' ;;
         check | lint) options+=' --outer' ;;
@@ -42,7 +42,7 @@ _soqavise() {
         lint) options+=' --module --type --lines --errors --stream --input' ;;
         types) options+=' --module' ;;
         dump) options+=' --input' ;;
-        rust) options+=' --out --message --type --open --also --from' ;;
+        generate) options+=' --out --message --type --open --also --from' ;;
     esac
     case $before in
         --rules) _soqavise_words 'ber cer der' ;;

@@ -148,7 +148,7 @@ fn wanted_parts<'input>(
     input: &'input [u8],
     spans: Spans<'input>,
 ) -> Result<ListedParts<'input>, Refusal>
-    requires { IsEmpty spans.entry }
+    requires { IsEmpty spans }
     ensures parts { IfOk result (λ o. (all : List Span) × AreParts schema.now.types.items rule id.0 input.now o.rest.now all × (o.list.items ≡ wanted_of spans.entry.wanted all)) }
     ensures refused { IfErr result (λ r. IsOutOfMemory r.error.kind ⊎ (IsLocated schema.now.types.items rule id.0 input.now r × IsCheckedUpTo rule (shape_of schema.now.types.items id.0) input.now (Err r.error))) }
     ensures rules { IfErr result (λ r. r.error.codec ≡ rule) }

@@ -1,3 +1,5 @@
 pub mod Offsets
+pub mod Queries
 pub mod Verdicts
 pub mod Worked
+pub mod WorkedQueries

@@ -1,11 +1,11 @@
 //! The types that messages may be of, each resolved once one may be of it.
-ghost use Rattle.std.specs.Prelude.{◌≡◌, [], Some, IfOk, IfSome, slice_get};
+ghost use Rattle.std.specs.Prelude.{◌≡◌, ◌<◌, [], Some, IfOk, IfSome, length, slice_get};
 ghost use Rattle.rasn_print.specs.declared.command_line.Work.TheVariants.{Dump};
-ghost use Rattle.rasn_print.specs.declared.known.Known.{Known};
 ghost use Rattle.rasn_print.specs.declared.known.Candidates.TheVariants.{Named, Nothing};
+ghost use Rattle.rasn_print.specs.Catalogs.{IsIndexOf};
 
 use crate::command_line::{Call, Work};
-use crate::fault::Fault;
+use crate::fault::CallFault;
 use crate::known::{Candidates, Known};
 use crate::listing::types_by_origin;
 use crate::messages::{MESSAGES, labelled};
@@ -13,7 +13,7 @@ use crate::similar::most_similar;
 use crate::texts::Texts;
 use crate::types::KnownType;
 use crate::unused::unused_types;
-use rasn_compiler::{Fault as ModuleFault, Library, Modules, Root, Source, TypeRef};
+use rasn_compiler::{Fault, Library, Modules, Root, Source, TypeRef};
 use rasn_schema::TypeId;
 use rasn_text::{Escaping, visible};
 use std::alloc::{AllocError, Global};
@@ -35,7 +35,7 @@ const MOST_TRIED: usize = 100;
 pub fn modules_of<'text>(
     alloc: Global,
     texts: &[Source<'text>],
-) -> Result<(Modules<'text>, String), Fault> {
+) -> Result<(Modules<'text>, String), CallFault> {
     let read = Texts::ALL.modules(alloc, texts)?;
     let faults = lines_of(alloc, &read.faults)?;
     Ok((read, faults))
@@ -45,12 +45,12 @@ pub fn modules_of<'text>(
 ///
 /// # Errors
 /// `Memory` if memory runs out.
-pub fn warnings_of(alloc: Global, read: &Modules<'_>) -> Result<String, Fault> {
+pub fn warnings_of(alloc: Global, read: &Modules<'_>) -> Result<String, CallFault> {
     lines_of(alloc, &read.warnings(alloc)?)
 }
 
 /// Returns a line for each fault.
-fn lines_of(alloc: Global, faults: &[ModuleFault<'_>]) -> Result<String, Fault> {
+fn lines_of(alloc: Global, faults: &[Fault<'_>]) -> Result<String, CallFault> {
     let mut lines = String::new(alloc);
     for fault in faults {
         let line = visible(alloc, Escaping::Line, fault.to_string(alloc)?.as_str())?;
@@ -83,9 +83,9 @@ impl<'text> Catalog<'text> {
     ///
     /// # Errors
     /// `Call` if it isn't known, or has no schema. `Memory` if memory runs out.
-    pub fn resolve_named(&mut self, alloc: Global, call: &Call) -> Result<(), Fault> {
+    pub fn resolve_named(&mut self, alloc: Global, call: &Call) -> Result<(), CallFault> {
         if call.type_name.is_some() {
-            self.known_for(alloc, call, Candidates::Named)?;
+            self.resolve(alloc, call, Candidates::Named)?;
         }
         Ok(())
     }
@@ -98,29 +98,38 @@ impl<'text> Catalog<'text> {
             && self.index_of(candidates).is_none()
     }
 
-    /// Returns these types of a call.
+    /// Returns the index of these types of a call, which are resolved if they weren't.
     ///
     /// # Errors
     /// As `resolve_named`.
-    pub(crate) fn known_for(
+    pub(crate) fn resolve(
         &mut self,
         alloc: Global,
         call: &Call,
         candidates: Candidates,
-    ) -> Result<&Known<'text>, Fault>
-        ensures { IfOk result (λ known. known.now.candidates ≡ candidates) }
+    ) -> Result<usize, CallFault>
+        ensures { IfOk result (IsIndexOf candidates self.new.known.items) }
     {
         if let Some(index) = self.index_of(candidates) {
-            return Ok(&self.known[index]);
+            return Ok(index);
         }
         let known = self.resolved(alloc, call, candidates)?;
+        let index = self.known.len();
         self.known.push(known)?;
-        Ok(&self.known[self.known.len() - 1])
+        Ok(index)
+    }
+
+    /// Returns the types with this index.
+    pub(crate) fn known(&self, index: usize) -> &Known<'text>
+        requires { index < length self.now.known.items }
+        ensures { Some result.now ≡ slice_get self.now.known.items index }
+    {
+        &self.known[index]
     }
 
     /// Returns the index of these types, if they are resolved.
     fn index_of(&self, candidates: Candidates) -> Option<usize>
-        ensures { IfSome result (λ k. (known : Known) × (Some known ≡ slice_get self.now.known.items k) × (known.candidates ≡ candidates)) }
+        ensures { IfSome result (IsIndexOf candidates self.now.known.items) }
     {
         for (index, known) in self.known.iter().enumerate() {
             if known.candidates == candidates {
@@ -136,7 +145,7 @@ impl<'text> Catalog<'text> {
         alloc: Global,
         call: &Call,
         candidates: Candidates,
-    ) -> Result<Known<'text>, Fault>
+    ) -> Result<Known<'text>, CallFault>
         ensures { IfOk result (λ known. known.candidates ≡ candidates) }
     {
         let Some(read) = self.read else {
@@ -224,7 +233,7 @@ fn known_of<'text>(
     call: &Call,
     candidates: Candidates,
     wanted: Vec<TypeRef<'text>>,
-) -> Result<Known<'text>, Fault>
+) -> Result<Known<'text>, CallFault>
     ensures { IfOk result (λ known. known.candidates ≡ candidates) }
 {
     let mut all = Vec::from_slice(alloc, wanted.as_slice())?;
@@ -271,10 +280,10 @@ fn contents(library: &Library<'_>, read: &Modules<'_>, name: &str) -> Option<Typ
 }
 
 /// Returns why the type that a call names has no schema: it is the first of the library.
-fn no_schema(alloc: Global, library: &Library<'_>) -> Fault {
+fn no_schema(alloc: Global, library: &Library<'_>) -> CallFault {
     match library.faults.first() {
-        Some(found) => Fault::of_call(alloc, &found.fault),
-        None => Fault::of_call(alloc, &"the type has no schema"),
+        Some(found) => CallFault::of_call(alloc, &found.fault),
+        None => CallFault::of_call(alloc, &"the type has no schema"),
     }
 }
 
@@ -286,7 +295,7 @@ fn types_for<'text>(
     call: &Call,
     candidates: Candidates,
     has_own: bool,
-) -> Result<Vec<TypeRef<'text>>, Fault> {
+) -> Result<Vec<TypeRef<'text>>, CallFault> {
     if let (Candidates::Named, Some(name)) = (candidates, &call.type_name) {
         return Ok(vec![in alloc; named_type(alloc, read, name)?]?);
     }
@@ -312,7 +321,7 @@ pub(crate) fn named_type<'text>(
     alloc: Global,
     read: &Modules<'text>,
     name: &str,
-) -> Result<TypeRef<'text>, Fault> {
+) -> Result<TypeRef<'text>, CallFault> {
     if let Some(of) = read.find(name) {
         return Ok(of);
     }
@@ -326,5 +335,5 @@ pub(crate) fn named_type<'text>(
             "no type {name} is known; `soqavise types` prints those that are known"
         )?,
     };
-    Err(Fault::of_call(alloc, &text))
+    Err(CallFault::of_call(alloc, &text))
 }

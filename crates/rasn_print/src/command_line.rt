@@ -72,7 +72,7 @@ pub struct Call {
     pub modules: Vec<String>,
     /// The type, perhaps with its module before it.
     pub type_name: Option<String>,
-    pub rules: Option<Codec>,
+    pub rule: Option<Codec>,
     pub input: Option<InputForm>,
     /// Whether open types are looked into.
     pub open_types: OpenTypes,
@@ -94,7 +94,7 @@ pub struct Call {
 impl Call {
     /// Returns how JSON is laid out: in one line if a line holds a message.
     pub(crate) fn layout(&self) -> Layout {
-        if self.has_lines || self.work != Work::Json {
+        if self.has_lines {
             Layout::Compact
         } else {
             Layout::Indented
@@ -378,7 +378,7 @@ pub fn call_of(alloc: Global, matches: &ArgMatches<'_>) -> Result<Option<Call>, 
             Some(name) => Some(String::from_str(alloc, name)?),
             None => None,
         },
-        rules: rules_of(inner.get_str("rules")),
+        rule: rule_of(inner.get_str("rules")),
         input: form_of(inner.get_str("input")),
         open_types: open_types_of(inner.get_flag("outer")),
         has_offsets: inner.get_flag("offsets"),
@@ -432,15 +432,15 @@ fn work_of(name: &str, is_example: bool) -> Option<Work>
 }
 
 /// Returns the rules of this name, in capitals or small letters.
-fn rules_of(name: Option<&str>) -> Option<Codec> {
+fn rule_of(name: Option<&str>) -> Option<Codec> {
     let name = name?;
-    for (word, rules) in [
+    for (word, rule) in [
         ("ber", Codec::Ber),
         ("cer", Codec::Cer),
         ("der", Codec::Der),
     ] {
         if name.eq_ignore_ascii_case(word) {
-            return Some(rules);
+            return Some(rule);
         }
     }
     None

@@ -195,11 +195,24 @@ pub(crate) fn deeper_at(
 
 /// Returns whether an encoding ends where these octets begin: with end-of-contents octets if its
 /// length is indefinite (X.690 8.1.5), otherwise where no octets remain.
-fn is_ended(rest: &[u8], is_indefinite: bool) -> bool {
+pub(crate) fn is_ended(rest: &[u8], is_indefinite: bool) -> bool {
     if is_indefinite {
         rest.starts_with(&[0, 0])
     } else {
         rest.is_empty()
+    }
+}
+
+/// Returns the whole encoding with which octets begin, or all of them without one, and what follows
+/// it.
+pub(crate) fn first_encoding(alloc: Global, octets: &[u8]) -> (&[u8], &[u8]) {
+    let mut decoder = Decoder::new(alloc, octets, DecoderOptions::of(Codec::Ber));
+    match decoder.skip_value() {
+        Ok(_) => {
+            let end = octets.len().saturating_sub(decoder.remaining().len());
+            octets.split_at_checked(end).unwrap_or((octets, &[]))
+        }
+        Err(_) => (octets, &[]),
     }
 }
 
@@ -316,10 +329,10 @@ pub(crate) fn primitive_text(
     known: &Known<'_>,
     entry: &Entry<'_>,
 ) -> Result<String, AllocError> {
-    match &known.universal_value(alloc, entry.octets)? {
-        Some(Value::Chosen(_, value)) => leaf_text(alloc, None, value),
-        _ => octets_text(alloc, entry.octets.get(entry.header_len..).unwrap_or(&[])),
+    if let Some(Value::Chosen(_, value)) = &known.universal_value(alloc, entry.octets)? {
+        return leaf_text(alloc, None, value);
     }
+    octets_text(alloc, entry.octets.get(entry.header_len..).unwrap_or(&[]))
 }
 
 /// Returns a tag as text: the name of a universal type, or as it is written in a module.

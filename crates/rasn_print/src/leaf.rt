@@ -36,6 +36,66 @@ pub(crate) fn leaf_text(
     }
 }
 
+/// Returns the characters of a value of a type of character strings, if they are UTF-8 or units of a
+/// BMPString that are characters. Returns `None` of other values.
+pub(crate) fn string_text(
+    alloc: Global,
+    ty: &Type,
+    value: &Value<'_>,
+) -> Result<Option<String>, AllocError> {
+    match value {
+        Value::Text(text) => Ok(Some(String::from_str(alloc, text.as_str())?)),
+        Value::Units(units) => characters_of(alloc, units),
+        Value::Octets(octets) if is_string(ty) => match str::from_utf8(octets.as_slice()) {
+            Ok(text) => Ok(Some(String::from_str(alloc, text)?)),
+            Err(_) => Ok(None),
+        },
+        Value::Octets(_)
+        | Value::Boolean(_)
+        | Value::Null
+        | Value::Integer(_)
+        | Value::Bits(_)
+        | Value::Arcs(_)
+        | Value::Instant(_)
+        | Value::Day(_)
+        | Value::Items(_)
+        | Value::Elements(_)
+        | Value::Chosen(_, _)
+        | Value::Absent => Ok(None),
+    }
+}
+
+/// Returns whether a type is one of character strings.
+fn is_string(ty: &Type) -> bool {
+    let Type::Leaf { kind, .. } = ty else {
+        return false;
+    };
+    match kind {
+        LeafKind::Utf8
+        | LeafKind::Bmp
+        | LeafKind::Numeric
+        | LeafKind::Printable
+        | LeafKind::Visible
+        | LeafKind::Ia5
+        | LeafKind::AnyOctets => true,
+        LeafKind::Boolean
+        | LeafKind::Null
+        | LeafKind::Integer
+        | LeafKind::Signed32
+        | LeafKind::Signed64
+        | LeafKind::Unsigned32
+        | LeafKind::Unsigned64
+        | LeafKind::ObjectIdentifier
+        | LeafKind::BitString
+        | LeafKind::NamedBits
+        | LeafKind::OctetString
+        | LeafKind::FixedOctetString(_)
+        | LeafKind::UtcTime
+        | LeafKind::GeneralizedTime
+        | LeafKind::Date => false,
+    }
+}
+
 /// Returns whether a type is a BIT STRING whose bits have names.
 fn is_named_bits(ty: Option<&Type>) -> bool {
     matches!(ty, Some(Type::Leaf { kind, .. }) if *kind == LeafKind::NamedBits)

@@ -34,7 +34,7 @@ mod work;
 
 pub use catalog::{Catalog, modules_of, warnings_of};
 pub use command_line::{Call, ColorChoice, InputForm, Work, call_of, command};
-pub use fault::Fault;
+pub use fault::CallFault;
 pub use known::Known;
 pub use listing::{print_notation, print_types};
 pub use offsets::offsets_text;

@@ -1,7 +1,7 @@
 //! Lists of the types of modules, and types as modules.
 
 use crate::catalog::{CONTENTS, named_type};
-use crate::fault::Fault;
+use crate::fault::CallFault;
 use crate::work::printed;
 use rasn_compiler::{Library, Modules, Root, Stop, TypeRef};
 use rasn_text::{Escaping, visible};
@@ -19,7 +19,7 @@ pub fn print_notation<W: Write>(
     read: &Modules<'_>,
     name: &str,
     output: &mut W,
-) -> Result<(), Fault> {
+) -> Result<(), CallFault> {
     let of = named_type(alloc, read, name)?;
     let module = match read.modules.get(of.module) {
         Some(module) => module.name,
@@ -29,16 +29,18 @@ pub fn print_notation<W: Write>(
         Ok(resolved) => {
             let text = resolved.notation(alloc)?.to_string(alloc)?;
             let text = printed(alloc, Escaping::Lines, text)?;
-            output.write_all(text.as_bytes()).map_err(Fault::of_write)
+            output
+                .write_all(text.as_bytes())
+                .map_err(CallFault::of_write)
         }
-        Err(Stop::Fault(fault)) => Err(Fault::of_call(alloc, &fault)),
-        Err(Stop::OutOfMemory) => Err(Fault::Memory),
+        Err(Stop::Fault(fault)) => Err(CallFault::of_call(alloc, &fault)),
+        Err(Stop::OutOfMemory) => Err(CallFault::Memory),
     }
 }
 
-/// Prints a line for each type of the modules, or of those that aren't built in if there are some:
-/// its name, the number of its constraints and contents that aren't checked, or why it has no
-/// schema. Of two modules of one name the first counts. Returns whether each has a schema.
+/// Prints a line for each type of the modules that aren't built in, or else of those that are: its
+/// name, the number of its constraints and contents that aren't checked, or why it has no schema. Of
+/// two modules of one name the first counts. Returns whether each has a schema.
 ///
 /// # Errors
 /// `Write` if the output can't be written, `Closed` if its reader has gone, `Memory` if memory runs
@@ -46,10 +48,11 @@ pub fn print_notation<W: Write>(
 pub fn print_types<W: Write>(
     alloc: Global,
     read: &Modules<'_>,
+    are_own: bool,
     output: &mut W,
-) -> Result<bool, Fault> {
+) -> Result<bool, CallFault> {
     let (own, built_in) = types_by_origin(alloc, read)?;
-    let types = if own.is_empty() { built_in } else { own };
+    let types = if are_own { own } else { built_in };
     let library = read.library(alloc, types.as_slice())?;
     let (mut faults, mut roots) = (0usize, 0usize);
     for of in &types {
@@ -65,7 +68,7 @@ pub fn print_types<W: Write>(
             (_, None) => break,
         };
         let line = visible(alloc, Escaping::Line, line.as_str())?;
-        writeln!(output, "{line}").map_err(Fault::of_write)?;
+        writeln!(output, "{line}").map_err(CallFault::of_write)?;
     }
     Ok(library.faults.is_empty())
 }

@@ -1,17 +1,25 @@
 //! Values as indented lines with the names of a schema.
+ghost use Rattle.std.specs.Prelude.{◌≡◌, IfSome};
+ghost use Rattle.rasn_print.specs.Queries.{IsAround};
+
+pub(crate) mod large;
 
 use crate::dump::{End, Entries, Entry, primitive_text, push_entry, push_indent};
+use crate::fault::CallFault;
 use crate::identifiers::{identifier_name, identifier_text};
 use crate::known::{Form, Known};
-use crate::leaf::leaf_text;
+use crate::leaf::{leaf_text, string_text};
 use crate::name::name_text;
 use crate::refusal_text::text_of;
 use crate::types::MessageType;
+use crate::work::Shown;
+use large::{Lines, write_message};
 use rasn_dynamic::decode;
 use rasn_schema::{LeafKind, Schema, Type, TypeId, Value, View, part_name, part_type, type_at};
-use rasn_types::types::{Codec, Hexadecimal};
+use rasn_types::types::{Codec, Hexadecimal, ObjectIdentifier};
 use std::alloc::{AllocError, Global};
 use std::fmt;
+use std::io::Write;
 use std::net::{Ipv4Addr, Ipv6Addr};
 
 /// How many values may be in one another, those in open types among them. A CHOICE and what is in an
@@ -24,7 +32,7 @@ const MESSAGE_LEVELS: usize = 128;
 
 /// Where a value is printed.
 #[derive(Clone, Copy)]
-struct Place<'a> {
+struct LinePlace<'a> {
     alloc: Global,
     known: &'a Known<'a>,
     /// The rules by which octets inside open types are read.
@@ -37,6 +45,21 @@ struct Place<'a> {
     title: &'a str,
     /// The name of the identifier beside the value.
     hint: Option<&'static str>,
+}
+
+impl<'a> LinePlace<'a> {
+    /// Returns where a message with this title is printed.
+    fn of(alloc: Global, known: &'a Known<'a>, rule: Codec, title: &'a str) -> LinePlace<'a> {
+        LinePlace {
+            alloc,
+            known,
+            rule,
+            levels: LEVELS,
+            depth: 0,
+            title,
+            hint: None,
+        }
+    }
 }
 
 /// Whether there was memory for what is appended.
@@ -52,22 +75,29 @@ pub fn value_text(
     wanted: &MessageType<'_>,
     value: &Value<'_>,
 ) -> Result<String, AllocError> {
-    let place = Place {
-        alloc,
-        known,
-        rule: wanted.rule,
-        levels: LEVELS,
-        depth: 0,
-        title: wanted.name,
-        hint: None,
-    };
+    let place = LinePlace::of(alloc, known, wanted.rule, wanted.name);
     let mut text = String::new(alloc);
     print(&mut text, place, &wanted.schema.view(wanted.root, value))?;
     Ok(text)
 }
 
-/// Returns a value in a line, if it is one that holds no others, a name or an address: text as it is,
-/// and other values as `value_text` has them.
+/// Writes the value of this type that octets encode as the same lines, as soon as there are some.
+///
+/// # Errors
+/// `Write` or `Closed` if they can't be written, `Memory` if memory runs out.
+pub(crate) fn write_large<W: Write + Drop>(
+    lines: &mut Lines<'_, W>,
+    alloc: Global,
+    known: &Known<'_>,
+    shown: &Shown,
+    octets: &[u8],
+) -> Result<(), CallFault> {
+    let place = LinePlace::of(alloc, known, shown.rule, shown.name.as_str());
+    write_message(lines, place, &known.schema, shown.root, octets)
+}
+
+/// Returns a value in a line, if it is one that holds no others, a name or an address: a character
+/// string as it is, and other values as `value_text` has them.
 ///
 /// # Errors
 /// `AllocError` if memory runs out.
@@ -77,26 +107,18 @@ pub(crate) fn line_text(
     title: &str,
     view: &View<'_, '_>,
 ) -> Result<Option<String>, AllocError> {
-    let place = Place {
-        alloc,
-        known,
-        rule: Codec::Ber,
-        levels: LEVELS,
-        depth: 0,
-        title,
-        hint: None,
-    };
+    let place = LinePlace::of(alloc, known, Codec::Ber, title);
     let mut title = String::from_str(alloc, title)?;
     let (inner, shown) = innermost(&mut title, place, view)?;
     if shown.is_some() {
         return Ok(shown);
     }
-    if let Value::Text(text) = inner.value {
-        return Ok(Some(String::from_str(alloc, text.as_str())?));
-    }
     match type_at(inner.schema.types(), inner.type_id) {
         Some(ty @ (Type::Leaf { .. } | Type::Enumerated { .. })) => {
-            Ok(Some(leaf_text(alloc, Some(ty), inner.value)?))
+            match string_text(alloc, ty, inner.value)? {
+                Some(text) => Ok(Some(text)),
+                None => Ok(Some(leaf_text(alloc, Some(ty), inner.value)?)),
+            }
         }
         Some(
             Type::Tagged { .. }
@@ -113,7 +135,7 @@ pub(crate) fn line_text(
 }
 
 /// Appends a line of a title and a value.
-fn push_line<T: fmt::Display>(text: &mut String, place: Place<'_>, value: &T) -> Appended {
+fn push_line<T: fmt::Display>(text: &mut String, place: LinePlace<'_>, value: &T) -> Appended {
     let title = place.title;
     push_indent(text, place.depth)?;
     writeln!(text, "{title}: {value}")
@@ -122,7 +144,7 @@ fn push_line<T: fmt::Display>(text: &mut String, place: Place<'_>, value: &T) ->
 /// Appends the lines of a value. The names of the alternatives that it is of CHOICEs in one another
 /// follow the title.
 #[cycle(print)]
-fn print(text: &mut String, place: Place<'_>, view: &View<'_, '_>) -> Appended {
+fn print(text: &mut String, place: LinePlace<'_>, view: &View<'_, '_>) -> Appended {
     if place.levels == 0 {
         return push_line(text, place, &"..");
     }
@@ -130,7 +152,7 @@ fn print(text: &mut String, place: Place<'_>, view: &View<'_, '_>) -> Appended {
     let mut title = String::from_str(place.alloc, place.title)?;
     let (inner, shown) = innermost(&mut title, place, view)?;
     let title = title.as_str();
-    let place = Place {
+    let place = LinePlace {
         levels,
         title,
         ..place
@@ -145,7 +167,7 @@ fn print(text: &mut String, place: Place<'_>, view: &View<'_, '_>) -> Appended {
 /// appends the names of the alternatives to the title.
 fn innermost<'view, 'input>(
     title: &mut String,
-    place: Place<'_>,
+    place: LinePlace<'_>,
     view: &View<'view, 'input>,
 ) -> Result<(View<'view, 'input>, Option<String>), AllocError> {
     let mut inner = view.schema.view(view.type_id, view.value);
@@ -168,7 +190,10 @@ fn innermost<'view, 'input>(
 /// if it is the only one. Returns `None` of other values.
 pub(crate) fn inside<'view, 'input>(
     view: &View<'view, 'input>,
-) -> Option<(&'view str, View<'view, 'input>)> {
+) -> Option<(&'view str, View<'view, 'input>)>
+    ensures part { IfSome result (λ found. IsAround view.now.schema.now.types.items view.now.type_id.0 view.now.value.now found.1.type_id found.1.value.now) }
+    ensures schema { IfSome result (λ found. found.1.schema.now ≡ view.now.schema.now) }
+{
     let ty = type_at(view.schema.types(), view.type_id)?;
     if let Type::Tagged { inner, .. } = ty {
         return Some(("", view.schema.view(*inner, view.value)));
@@ -185,7 +210,7 @@ pub(crate) fn inside<'view, 'input>(
 
 /// Appends the lines of a value that is in no CHOICE and no explicit tag any more.
 #[cycle(print)]
-fn print_by(text: &mut String, place: Place<'_>, view: &View<'_, '_>) -> Appended {
+fn print_by(text: &mut String, place: LinePlace<'_>, view: &View<'_, '_>) -> Appended {
     let value = view.value;
     let Some(ty) = type_at(view.schema.types(), view.type_id) else {
         return Ok(());
@@ -233,7 +258,7 @@ fn parts_of<'value, 'input>(value: &'value Value<'input>) -> &'value [Value<'inp
 #[cycle(print)]
 fn print_parts<'view>(
     text: &mut String,
-    place: Place<'_>,
+    place: LinePlace<'_>,
     schema: &'view Schema,
     ty: &Type,
     values: &'view [Value<'_>],
@@ -253,7 +278,7 @@ fn print_parts<'view>(
             Some(name) => String::from_str(place.alloc, name)?,
             None => format!(in place.alloc; "[{index}]")?,
         };
-        let part = Place {
+        let part = LinePlace {
             depth: place.depth.saturating_add(1),
             title: title.as_str(),
             hint,
@@ -267,7 +292,7 @@ fn print_parts<'view>(
 /// Appends the line of the title of components or elements.
 fn print_heading(
     text: &mut String,
-    place: Place<'_>,
+    place: LinePlace<'_>,
     is_list: bool,
     values: &[Value<'_>],
 ) -> Appended {
@@ -277,6 +302,11 @@ fn print_heading(
     if let (false, Some(Value::Arcs(identifier))) = (is_list, values.first()) {
         return push_line(text, place, &identifier_text(place.alloc, identifier)?);
     }
+    print_title(text, place)
+}
+
+/// Appends a line of a title.
+fn print_title(text: &mut String, place: LinePlace<'_>) -> Appended {
     let title = place.title;
     push_indent(text, place.depth)?;
     writeln!(text, "{title}")
@@ -285,7 +315,12 @@ fn print_heading(
 /// Appends the lines of octets: of the value whose encoding they are, if the identifier beside them
 /// says its type.
 #[cycle(print)]
-fn print_octets(text: &mut String, place: Place<'_>, value: &Value<'_>, form: Form) -> Appended {
+fn print_octets(
+    text: &mut String,
+    place: LinePlace<'_>,
+    value: &Value<'_>,
+    form: Form,
+) -> Appended {
     if let Value::Bits(bits) = value {
         let mut octets = Vec::new(place.alloc);
         bits.as_bitstr().append_to(&mut octets)?;
@@ -301,7 +336,7 @@ fn print_octets(text: &mut String, place: Place<'_>, value: &Value<'_>, form: Fo
 #[cycle(print)]
 fn print_held(
     text: &mut String,
-    place: Place<'_>,
+    place: LinePlace<'_>,
     value: &Value<'_>,
     form: Form,
     octets: &[u8],
@@ -323,7 +358,7 @@ fn print_held(
             let hint = None;
             print(
                 text,
-                Place { hint, ..place },
+                LinePlace { hint, ..place },
                 &known.schema.view(id, &value),
             )
         }
@@ -338,7 +373,7 @@ fn print_held(
 }
 
 /// Appends the lines of unknown values, each of which is an encoding.
-fn print_additions(text: &mut String, place: Place<'_>, value: &Value<'_>) -> Appended {
+fn print_additions(text: &mut String, place: LinePlace<'_>, value: &Value<'_>) -> Appended {
     let Value::Items(values) = value else {
         return Ok(());
     };
@@ -366,7 +401,7 @@ fn are_entries(alloc: Global, octets: &[u8]) -> Result<bool, AllocError> {
 }
 
 /// Appends the lines of an encoding of a type that isn't known.
-fn print_encoding(text: &mut String, place: Place<'_>, octets: &[u8]) -> Appended {
+fn print_encoding(text: &mut String, place: LinePlace<'_>, octets: &[u8]) -> Appended {
     if !are_entries(place.alloc, octets)? {
         return push_line(text, place, &Hexadecimal::new(octets));
     }
@@ -382,7 +417,7 @@ fn print_encoding(text: &mut String, place: Place<'_>, octets: &[u8]) -> Appende
 }
 
 /// Appends the line of an encoding in an open type, whose title the outermost one has.
-fn print_entry(text: &mut String, place: Place<'_>, entry: &Entry<'_>) -> Appended {
+fn print_entry(text: &mut String, place: LinePlace<'_>, entry: &Entry<'_>) -> Appended {
     push_indent(text, place.depth.saturating_add(entry.depth))?;
     if entry.depth == 0 {
         let title = place.title;
@@ -400,15 +435,23 @@ fn print_entry(text: &mut String, place: Place<'_>, entry: &Entry<'_>) -> Append
 /// component that is an OBJECT IDENTIFIER or begins with one, as an AlgorithmIdentifier.
 fn hint_of(values: &[Value<'_>]) -> Option<&'static str> {
     for value in values {
-        let first = match value {
-            Value::Items(parts) => parts.first(),
-            value => Some(value),
-        };
-        if let Some(Value::Arcs(identifier)) = first {
+        if let Some(identifier) = identifier_in(value) {
             return identifier_name(identifier.arcs());
         }
     }
     None
+}
+
+/// Returns the OBJECT IDENTIFIER that a value is or begins with.
+fn identifier_in<'value>(value: &'value Value<'_>) -> Option<&'value ObjectIdentifier> {
+    let first = match value {
+        Value::Items(parts) => parts.first(),
+        value => Some(value),
+    };
+    match first {
+        Some(Value::Arcs(identifier)) => Some(identifier),
+        _ => None,
+    }
 }
 
 /// Returns the name of a type of a schema.
@@ -417,19 +460,27 @@ fn name_of_type(schema: &Schema, id: TypeId) -> Option<&str> {
     Some(named.name.as_str())
 }
 
+/// Returns whether values of a type are distinguished names or what these are made of.
+fn is_name(schema: &Schema, id: TypeId) -> bool {
+    matches!(
+        name_of_type(schema, id),
+        Some("RDNSequence" | "RelativeDistinguishedName")
+    )
+}
+
 /// Returns a value in one line, if it reads better so: distinguished names and addresses.
 fn short_text(
-    place: Place<'_>,
+    place: LinePlace<'_>,
     title: &str,
     view: &View<'_, '_>,
 ) -> Result<Option<String>, AllocError> {
     let (alloc, value) = (place.alloc, view.value);
-    let name = name_of_type(view.schema, view.type_id).unwrap_or("");
-    if name == "RDNSequence" || name == "RelativeDistinguishedName" {
+    if is_name(view.schema, view.type_id) {
         return name_text(alloc, place.known, value);
     }
     if let Value::Octets(octets) = value {
-        if name == "IpAddress" || title.ends_with("iPAddress") {
+        let name = name_of_type(view.schema, view.type_id);
+        if name == Some("IpAddress") || title.ends_with("iPAddress") {
             return address_text(alloc, octets.as_slice());
         }
     }

@@ -1,21 +1,23 @@
 //! Goes over the messages of inputs.
-ghost use Rattle.std.specs.Prelude.{◌≡◌, true};
+ghost use Rattle.std.specs.Prelude.{◌≡◌, ◌<◌, true, length};
 
 use crate::catalog::{Catalog, candidates_for};
 use crate::command_line::{Call, Work};
-use crate::dump::{Entries, Entry, entry_line, fault_text};
-use crate::fault::Fault;
-use crate::input::{Form, form_of, from_line, is_plain_text, why_not_hexadecimal, without_mark};
+use crate::dump::{Entries, Entry, entry_line, fault_text, first_encoding};
+use crate::fault::CallFault;
+use crate::input::{Form, form_of, form_of_line, is_plain_text, without_mark};
 use crate::known::Candidates;
 use crate::messages::{TRUST, TRUSTED};
 use crate::pasted::unindented;
 use crate::pem_fault::block_fault;
+use crate::printer::large::Lines;
+use crate::printer::write_large;
 use crate::query::{cell_text, row_text};
 use crate::reason::Reason;
-use crate::work::{Answer, Context, Input, answer_of_first, answer_to, is_of_first, printed};
-use rasn_de::ber::de::{Decoder, DecoderOptions};
+use crate::work::{
+    Answer, Context, Input, Shown, answer_of_first, answer_to, is_of_first, printed,
+};
 use rasn_text::{Block, Escaping, visible};
-use rasn_types::types::Codec;
 use std::alloc::{AllocError, Global};
 use std::io::{self, BufRead, ErrorKind, Write};
 use std::{fmt, slice, str};
@@ -39,21 +41,21 @@ pub struct Session<'a, W: Write + Drop, E: Write + Drop> {
 
 impl<W: Write + Drop, E: Write + Drop> Session<'_, W, E> {
     /// Writes octets.
-    fn write(&mut self, octets: &[u8]) -> Result<(), Fault>
+    fn write(&mut self, octets: &[u8]) -> Result<(), CallFault>
         ensures { self.new.is_refused ≡ self.old.is_refused }
     {
-        self.output.write_all(octets).map_err(Fault::of_write)
+        self.output.write_all(octets).map_err(CallFault::of_write)
     }
 
     /// Writes why a message of the input with this name is refused.
-    fn refuse<T: fmt::Display>(&mut self, name: &str, reason: &T) -> Result<(), Fault>
+    fn refuse<T: fmt::Display>(&mut self, name: &str, reason: &T) -> Result<(), CallFault>
         ensures { self.new.is_refused ≡ true }
     {
         self.is_refused = true;
         let line = line_of(self.alloc, name, reason)?;
         self.refusals
             .write_all(line.as_bytes())
-            .map_err(Fault::of_write)
+            .map_err(CallFault::of_write)
     }
 
     /// Flushes the output.
@@ -61,10 +63,10 @@ impl<W: Write + Drop, E: Write + Drop> Session<'_, W, E> {
     /// # Errors
     /// `Write` if it can't be written, `Closed` if its reader has gone, `Memory` if memory runs
     /// out.
-    pub fn flush(&mut self) -> Result<(), Fault>
+    pub fn flush(&mut self) -> Result<(), CallFault>
         ensures { self.new.is_refused ≡ self.old.is_refused }
     {
-        self.output.flush().map_err(Fault::of_write)
+        self.output.flush().map_err(CallFault::of_write)
     }
 
     /// Works on the messages of an input. A message that is refused sets `is_refused` and is no
@@ -72,7 +74,7 @@ impl<W: Write + Drop, E: Write + Drop> Session<'_, W, E> {
     ///
     /// # Errors
     /// As `flush`.
-    pub fn input(&mut self, name: &str, octets: &[u8]) -> Result<(), Fault> {
+    pub fn input(&mut self, name: &str, octets: &[u8]) -> Result<(), CallFault> {
         let alloc = self.alloc;
         let plain = unindented(alloc, without_mark(octets))?;
         let text = match &plain {
@@ -99,7 +101,7 @@ impl<W: Write + Drop, E: Write + Drop> Session<'_, W, E> {
         octets: &[u8],
         is_text: bool,
         is_headed: bool,
-    ) -> Result<(), Fault> {
+    ) -> Result<(), CallFault> {
         if !self.call.is_stream {
             return self.message(name, octets, None, is_text, is_headed);
         }
@@ -128,7 +130,7 @@ impl<W: Write + Drop, E: Write + Drop> Session<'_, W, E> {
         text: &[u8],
         blocks: &[Block<'_>],
         is_headed: bool,
-    ) -> Result<(), Fault> {
+    ) -> Result<(), CallFault> {
         let alloc = self.alloc;
         let is_headed = is_headed || (self.call.work == Work::Show && blocks.len() > 1);
         if blocks.is_empty() {
@@ -179,7 +181,7 @@ impl<W: Write + Drop, E: Write + Drop> Session<'_, W, E> {
         label: Option<&str>,
         is_text: bool,
         is_headed: bool,
-    ) -> Result<(), Fault> {
+    ) -> Result<(), CallFault> {
         if self.call.work == Work::Dump {
             return self.dump(name, octets);
         }
@@ -193,11 +195,12 @@ impl<W: Write + Drop, E: Write + Drop> Session<'_, W, E> {
                 if self.call.work == Work::Table {
                     self.write_cell(name)?;
                 }
-                if is_headed {
-                    let heading = visible(self.alloc, Escaping::Line, name)?;
-                    writeln!(self.output, "{heading}").map_err(Fault::of_write)?;
-                }
+                self.write_name(name, is_headed)?;
                 self.write(&octets)
+            }
+            Answer::Large(shown) => {
+                self.write_name(name, is_headed)?;
+                self.write_large(&shown, octets)
             }
             Answer::Departures(reasons) => self.write_departures(name, reasons.as_slice()),
             Answer::Refused(reason) => {
@@ -211,35 +214,60 @@ impl<W: Write + Drop, E: Write + Drop> Session<'_, W, E> {
         }
     }
 
-    /// Returns what messages are worked on with that may be of these types.
-    fn context(&mut self, candidates: Candidates) -> Result<Context<'_>, Fault>
-        ensures { self.new.is_refused ≡ self.old.is_refused }
+    /// Writes the name of a message, if that is wanted.
+    fn write_name(&mut self, name: &str, is_headed: bool) -> Result<(), CallFault> {
+        if !is_headed {
+            return Ok(());
+        }
+        let heading = visible(self.alloc, Escaping::Line, name)?;
+        writeln!(self.output, "{heading}").map_err(CallFault::of_write)
+    }
+
+    /// Writes the lines of a large message, which is of this type.
+    fn write_large(&mut self, shown: &Shown, octets: &[u8]) -> Result<(), CallFault> {
+        let alloc = self.alloc;
+        let index = self.catalog.resolve(alloc, self.call, shown.candidates)?;
+        let mut lines = Lines {
+            output: &mut self.output,
+            text: String::new(alloc),
+            is_colored: self.is_colored,
+        };
+        let known = self.catalog.known(index);
+        write_large(&mut lines, alloc, known, shown, octets)
+    }
+
+    /// Returns what messages are worked on with that may be of the types with this index.
+    fn context(&self, index: usize) -> Context<'_>
+        requires { index < length self.now.catalog.known.items }
     {
-        Ok(Context {
+        Context {
             alloc: self.alloc,
             call: self.call,
-            known: self.catalog.known_for(self.alloc, self.call, candidates)?,
+            known: self.catalog.known(index),
             is_colored: self.is_colored,
-        })
+        }
     }
 
     /// Returns what is printed for a message. While the types that are tried aren't resolved, the
     /// first of them is tried alone.
-    fn answer(&mut self, input: &Input<'_>) -> Result<Answer, Fault>
+    fn answer(&mut self, input: &Input<'_>) -> Result<Answer, CallFault>
         ensures { self.new.is_refused ≡ self.old.is_refused }
     {
-        let candidates = candidates_for(self.call, input.label);
-        if self.catalog.may_try_first(candidates)
-            && is_of_first(&self.context(Candidates::First)?, input)?
-        {
-            let candidates = if self.call.work == Work::Show {
-                Candidates::Labelled(0)
-            } else {
-                Candidates::First
-            };
-            return Ok(answer_of_first(&self.context(candidates)?, input)?);
+        let (alloc, call) = (self.alloc, self.call);
+        let candidates = candidates_for(call, input.label);
+        if self.catalog.may_try_first(candidates) {
+            let first = self.catalog.resolve(alloc, call, Candidates::First)?;
+            if is_of_first(&self.context(first), input)? {
+                let shown = if call.work == Work::Show {
+                    self.catalog.resolve(alloc, call, Candidates::Labelled(0))?
+                } else {
+                    first
+                };
+                return Ok(answer_of_first(&self.context(shown), input)?);
+            }
         }
-        Ok(answer_to(&self.context(candidates)?, input)?)
+        let index = self.catalog.resolve(alloc, call, candidates)?;
+        Ok(answer_to(&self.context(index), input)?)
     }
 
     /// Writes the first line of a table, if one is asked for: the names of its columns, which are the
@@ -247,24 +275,29 @@ impl<W: Write + Drop, E: Write + Drop> Session<'_, W, E> {
     ///
     /// # Errors
     /// As `flush`.
-    pub fn begin(&mut self) -> Result<(), Fault> {
+    pub fn begin(&mut self) -> Result<(), CallFault> {
         let call = self.call;
         if call.work != Work::Table {
             return Ok(());
         }
         self.write_cell("message")?;
-        let row = row_text(self.alloc, call, call.paths.as_slice())?;
+        let mut cells = Vec::new(self.alloc);
+        for path in &call.paths {
+            cells.push(visible(self.alloc, Escaping::Line, path.as_str())?)?;
+        }
+        let row = row_text(self.alloc, call, cells.as_slice())?;
         self.write(row.as_bytes())
     }
 
     /// Writes the first cell of a row of a table.
-    fn write_cell(&mut self, text: &str) -> Result<(), Fault> {
-        let cell = cell_text(self.alloc, self.call, text)?;
+    fn write_cell(&mut self, text: &str) -> Result<(), CallFault> {
+        let text = visible(self.alloc, Escaping::Line, text)?;
+        let cell = cell_text(self.alloc, self.call, text.as_str())?;
         self.write(cell.as_bytes())
     }
 
     /// Writes a line for each departure of a message from DER, and how many there are.
-    fn write_departures(&mut self, name: &str, reasons: &[Reason]) -> Result<(), Fault>
+    fn write_departures(&mut self, name: &str, reasons: &[Reason]) -> Result<(), CallFault>
         ensures { self.new.is_refused ≡ true }
     {
         let alloc = self.alloc;
@@ -285,12 +318,12 @@ impl<W: Write + Drop, E: Write + Drop> Session<'_, W, E> {
     ///
     /// # Errors
     /// As `flush`.
-    pub fn example(&mut self) -> Result<(), Fault> {
+    pub fn example(&mut self) -> Result<(), CallFault> {
         self.message("example", &[], None, true, false)
     }
 
     /// Prints the encodings of octets, each as soon as it is read.
-    fn dump(&mut self, name: &str, octets: &[u8]) -> Result<(), Fault> {
+    fn dump(&mut self, name: &str, octets: &[u8]) -> Result<(), CallFault> {
         let mut entries = Entries::new(self.alloc, octets);
         // Each encoding has an octet of its own.
         for _ in octets {
@@ -307,10 +340,10 @@ impl<W: Write + Drop, E: Write + Drop> Session<'_, W, E> {
     }
 
     /// Writes the line of an encoding.
-    fn write_entry(&mut self, entry: &Entry<'_>) -> Result<(), Fault> {
+    fn write_entry(&mut self, entry: &Entry<'_>) -> Result<(), CallFault> {
         let alloc = self.alloc;
-        let context = self.context(Candidates::Nothing)?;
-        let line = entry_line(alloc, context.known, entry)?;
+        let index = self.catalog.resolve(alloc, self.call, Candidates::Nothing)?;
+        let line = entry_line(alloc, self.catalog.known(index), entry)?;
         self.write(printed(alloc, Escaping::Lines, line)?.as_bytes())
     }
 
@@ -320,7 +353,7 @@ impl<W: Write + Drop, E: Write + Drop> Session<'_, W, E> {
     ///
     /// # Errors
     /// As `flush`.
-    pub fn lines<R: BufRead + Drop>(&mut self, name: &str, reader: R) -> Result<(), Fault> {
+    pub fn lines<R: BufRead + Drop>(&mut self, name: &str, reader: R) -> Result<(), CallFault> {
         for (index, line) in reader.split(self.alloc, b'\n').enumerate() {
             match line {
                 Ok(line) if without_mark(&line).starts_with(b"-----BEGIN ") => {
@@ -334,9 +367,9 @@ impl<W: Write + Drop, E: Write + Drop> Session<'_, W, E> {
     }
 
     /// Writes why the input with this name can't be read.
-    fn unreadable(&mut self, name: &str, error: &io::Error) -> Result<(), Fault> {
+    fn unreadable(&mut self, name: &str, error: &io::Error) -> Result<(), CallFault> {
         if error.kind() == ErrorKind::OutOfMemory {
-            return Err(Fault::Memory);
+            return Err(CallFault::Memory);
         }
         let reason = format!(in self.alloc; "cannot read: {error}")?;
         self.refuse(name, &reason)
@@ -344,17 +377,33 @@ impl<W: Write + Drop, E: Write + Drop> Session<'_, W, E> {
 
     /// Works on the line with this index: prints its answer, `ok` if that is empty, or why it is
     /// refused.
-    fn line(&mut self, name: &str, index: usize, line: &[u8]) -> Result<(), Fault> {
-        let number = index.saturating_add(1);
-        match self.line_answer(line)? {
+    fn line(&mut self, name: &str, index: usize, line: &[u8]) -> Result<(), CallFault> {
+        let (alloc, number) = (self.alloc, index.saturating_add(1));
+        let line = without_mark(line);
+        let form = form_of_line(alloc, self.call.work, line)?;
+        let octets = match &form {
+            Form::Octets | Form::Pem(_) => line,
+            Form::Text(octets) => octets.as_slice(),
+            Form::Wrong(reason) => {
+                let reason = Reason::of(alloc, reason)?;
+                return self.refuse_line(name, number, slice::from_ref(&reason));
+            }
+        };
+        let input = Input {
+            octets,
+            label: None,
+            is_text: true,
+        };
+        match self.answer(&input)? {
             Answer::Done(text) if text.is_empty() => self.write(b"ok\n"),
             Answer::Done(text) => {
                 if self.call.work == Work::Table {
-                    let number = number.to_string(self.alloc)?;
+                    let number = number.to_string(alloc)?;
                     self.write_cell(number.as_str())?;
                 }
                 self.write(&text)
             }
+            Answer::Large(shown) => self.write_large(&shown, octets),
             Answer::Departures(reasons) => self.refuse_line(name, number, reasons.as_slice()),
             Answer::Refused(reason) => self.refuse_line(name, number, slice::from_ref(&reason)),
         }
@@ -362,7 +411,12 @@ impl<W: Write + Drop, E: Write + Drop> Session<'_, W, E> {
 
     /// Writes for which reasons the line with this number is refused: as objects of JSON if that is
     /// asked for, or else in a line.
-    fn refuse_line(&mut self, name: &str, number: usize, reasons: &[Reason]) -> Result<(), Fault>
+    fn refuse_line(
+        &mut self,
+        name: &str,
+        number: usize,
+        reasons: &[Reason],
+    ) -> Result<(), CallFault>
         ensures { self.new.is_refused ≡ true }
     {
         let alloc = self.alloc;
@@ -378,7 +432,7 @@ impl<W: Write + Drop, E: Write + Drop> Session<'_, W, E> {
         }
         if has_json {
             let text = lines.as_slice().join(alloc, "\n")?;
-            return writeln!(self.output, "{text}").map_err(Fault::of_write);
+            return writeln!(self.output, "{text}").map_err(CallFault::of_write);
         }
         let text = lines.as_slice().join(alloc, "; ")?;
         if self.call.work.prints_data() {
@@ -386,38 +440,7 @@ impl<W: Write + Drop, E: Write + Drop> Session<'_, W, E> {
             return self.refuse(name.as_str(), &text);
         }
         let text = visible(alloc, Escaping::Line, text.as_str())?;
-        writeln!(self.output, "{text}").map_err(Fault::of_write)
-    }
-
-    /// Returns what is printed for the octets that a line denotes, or for those of its JSON.
-    fn line_answer(&mut self, line: &[u8]) -> Result<Answer, Fault>
-        ensures { self.new.is_refused ≡ self.old.is_refused }
-    {
-        let alloc = self.alloc;
-        let line = without_mark(line);
-        let Some(octets) = from_line(alloc, self.call.work, line)? else {
-            let reason = why_not_hexadecimal(line, "neither hexadecimal nor base64");
-            return Ok(Answer::Refused(Reason::of(alloc, &reason)?));
-        };
-        let input = Input {
-            octets: octets.as_slice(),
-            label: None,
-            is_text: true,
-        };
-        self.answer(&input)
-    }
-}
-
-/// Returns the whole encoding with which octets begin, or all of them without one, and what follows
-/// it.
-fn first_encoding(alloc: Global, octets: &[u8]) -> (&[u8], &[u8]) {
-    let mut decoder = Decoder::new(alloc, octets, DecoderOptions::of(Codec::Ber));
-    match decoder.skip_value() {
-        Ok(_) => {
-            let end = octets.len().saturating_sub(decoder.remaining().len());
-            octets.split_at_checked(end).unwrap_or((octets, &[]))
-        }
-        Err(_) => (octets, &[]),
+        writeln!(self.output, "{text}").map_err(CallFault::of_write)
     }
 }
 

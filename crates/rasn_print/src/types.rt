@@ -2,7 +2,7 @@
 ghost use Rattle.std.specs.Prelude.{◌≡◌, Some};
 ghost use Rattle.rasn_types.specs.declared.types.codec.Codec.{Codec};
 
-use crate::messages::rules_of;
+use crate::messages::rule_of;
 use rasn_compiler::Root;
 use rasn_schema::{Schema, Type, TypeId};
 use rasn_types::types::Codec;
@@ -50,14 +50,14 @@ impl<'a> MessageType<'a> {
     pub(crate) fn new(
         schema: &'a Schema,
         of: &KnownType<'a>,
-        rules: Option<Codec>,
+        rule: Option<Codec>,
     ) -> MessageType<'a>
-        ensures rules { (rule : Codec) → rules ≡ Some rule → result.rule ≡ rule }
+        ensures rule { (given : Codec) → rule ≡ Some given → result.rule ≡ given }
         ensures of { (result.root ≡ of.now.root) × (result.holds_open ≡ of.now.holds_open) × (result.schema.now ≡ schema.now) }
     {
-        let rule = match rules {
+        let rule = match rule {
             Some(rule) => rule,
-            None => rules_of(of.module),
+            None => rule_of(of.module),
         };
         MessageType {
             name: of.name,

@@ -10,6 +10,7 @@ use crate::dump::{End, Entries, deeper_at, entry_of};
 use crate::example::example_of;
 use crate::known::{Candidates, Known};
 use crate::offsets::offsets_text;
+use crate::printer::large::LARGE;
 use crate::printer::line_text;
 use crate::query::{part_at, row_text};
 use crate::reading::{check, read_alone, remainder, show};
@@ -18,9 +19,9 @@ use crate::refusal_text::{extra_from, text_of};
 use crate::types::{KnownType, MessageType};
 use base64::engine::general_purpose::STANDARD;
 use rasn_dynamic::{Refusal, WriteError, decode};
-use rasn_json::{JsonError, encode, to_json};
+use rasn_json::{JsonError, Layout, encode, to_json};
 use rasn_lint::{Departure, LintError, OpenTypes, check as check_der, lint};
-use rasn_schema::{Type, Value, View, part_type, type_at};
+use rasn_schema::{Type, TypeId, Value, View, part_type, type_at};
 use rasn_text::{Escaping, is_hidden, visible};
 use rasn_types::error::DecodeErrorKind;
 use rasn_types::types::{Codec, Hexadecimal, Tag};
@@ -58,10 +59,22 @@ pub struct Input<'a> {
 pub enum Answer {
     /// These octets.
     Done(Vec<u8>),
+    /// The lines of a large message of this type, which are made as they are written.
+    Large(Shown),
     /// A line for each departure from DER, of which there is one at least.
     Departures(Vec<Reason>),
     /// Why it is refused.
     Refused(Reason),
+}
+
+/// The type of a message that is shown part by part.
+#[derive(Drop)]
+pub struct Shown {
+    pub(crate) candidates: Candidates,
+    pub(crate) root: TypeId,
+    pub(crate) rule: Codec,
+    /// The name of the type.
+    pub(crate) name: String,
 }
 
 /// What is printed, unless memory runs out.
@@ -112,7 +125,7 @@ pub(crate) fn answer_of_first(context: &Context<'_>, input: &Input<'_>) -> Answe
 
 /// Returns a known type, with the rules of the call or its own.
 fn type_of<'a>(context: &Context<'a>, of: &KnownType<'a>) -> MessageType<'a> {
-    MessageType::new(&context.known.schema, of, context.call.rules)
+    MessageType::new(&context.known.schema, of, context.call.rule)
 }
 
 /// Returns what is printed for a message of the first type that reads it, or else why it is refused
@@ -433,19 +446,35 @@ impl Message<'_, '_> {
     /// Returns it as text or the parts of it, in colour if that is asked for.
     fn shown(&self) -> Answered {
         let (alloc, call) = (self.context.alloc, self.context.call);
+        if self.octets.len() >= LARGE && !call.has_offsets {
+            return self.shown_in_parts();
+        }
         let shown = if call.has_offsets {
             offsets_text(alloc, self.wanted, self.octets)
         } else {
             show(alloc, self.context.known, self.wanted, self.octets)
         };
-        let text = match shown {
-            Ok(text) => printed(alloc, Escaping::Lines, text)?,
-            Err(refusal) => return self.refused(refusal),
-        };
-        if self.context.is_colored {
-            return Ok(Answer::Done(colored(alloc, text.as_str())?.into_bytes()));
+        match shown {
+            Ok(text) => {
+                let text = lines_shown(alloc, self.context.is_colored, text)?;
+                Ok(Answer::Done(text.into_bytes()))
+            }
+            Err(refusal) => self.refused(refusal),
         }
-        Ok(Answer::Done(text.into_bytes()))
+    }
+
+    /// Returns that its lines are made as they are written.
+    fn shown_in_parts(&self) -> Answered {
+        let (context, wanted) = (self.context, self.wanted);
+        match check(context.alloc, wanted, self.octets) {
+            Ok(()) => Ok(Answer::Large(Shown {
+                candidates: context.known.candidates,
+                root: wanted.root,
+                rule: wanted.rule,
+                name: String::from_str(context.alloc, wanted.name)?,
+            })),
+            Err(refusal) => self.refused(refusal),
+        }
     }
 
     /// Returns the values of the parts that are asked for: in a table a row of them.
@@ -482,10 +511,11 @@ impl Message<'_, '_> {
         }
         let mut lines = cells.as_slice().join(alloc, "\n")?;
         lines.push('\n')?;
-        Ok(Answer::Done(printed(alloc, Escaping::Lines, lines)?.into_bytes()))
+        Ok(Answer::Done(lines.into_bytes()))
     }
 
-    /// Returns the value of a part in a line: as JSON if that is asked for, or if it holds others.
+    /// Returns the value of a part in a line, in which nothing is hidden: as JSON if that is asked
+    /// for, or if it holds others.
     fn cell_of(
         &self,
         path: &str,
@@ -494,12 +524,19 @@ impl Message<'_, '_> {
         let (alloc, call) = (self.context.alloc, self.context.call);
         if !call.has_json {
             if let Some(text) = line_text(alloc, self.context.known, path, part)? {
-                return Ok(Ok(text));
+                return Ok(Ok(visible(alloc, Escaping::Line, text.as_str())?));
             }
         }
-        match to_json(alloc, part.schema, part.type_id, part.value, call.layout()) {
+        match to_json(
+            alloc,
+            part.schema,
+            part.type_id,
+            part.value,
+            Layout::Compact,
+        ) {
+            Ok(text) => Ok(Ok(printed(alloc, Escaping::Json, text)?)),
             Err(error) if error.is_out_of_memory() => Err(AllocError),
-            json => Ok(json),
+            Err(error) => Ok(Err(error)),
         }
     }
 
@@ -612,6 +649,19 @@ pub(crate) fn printed(
 ) -> Result<String, AllocError> {
     if text.chars().any(|it| it != '\n' && is_hidden(it)) {
         return visible(alloc, escaping, text.as_str());
+    }
+    Ok(text)
+}
+
+/// Returns lines as they are printed, in colour if that is asked for.
+pub(crate) fn lines_shown(
+    alloc: Global,
+    is_colored: bool,
+    text: String,
+) -> Result<String, AllocError> {
+    let text = printed(alloc, Escaping::Lines, text)?;
+    if is_colored {
+        return colored(alloc, text.as_str());
     }
     Ok(text)
 }

@@ -1,16 +1,16 @@
 //! Shows, checks and converts messages of any type of ASN.1.
 #![tactic(auto)]
 
-mod rust;
+mod generate;
 mod words;
 
 use clap::Command;
+use generate::{generate_command, run_generate};
 use rasn_compiler::{Modules, Source};
 use rasn_print::{
-    Call, Catalog, ColorChoice, Fault, Session, Work, call_of, command, modules_of, print_notation,
-    print_types, warnings_of,
+    Call, CallFault, Catalog, ColorChoice, Session, Work, call_of, command, modules_of,
+    print_notation, print_types, warnings_of,
 };
-use rust::{run_rust, rust_command};
 use std::alloc::{AllocError, Global};
 use std::fs::{self, File};
 use std::io::{BufReader, BufWriter, ErrorKind, IsTerminal, Read, Write};
@@ -27,6 +27,9 @@ const USAGE: u8 = 2;
 /// Why a file isn't opened whose name isn't UTF-8.
 const NO_NAME: &str = "the name isn't UTF-8";
 
+/// What is said of the name that a command had until 0.31.
+const RENAMED: &str = "the command is called `generate`: what it writes is Rattle";
+
 /// The name of standard input among files.
 const STDIN: &str = "-";
 
@@ -36,10 +39,10 @@ const ERASED: &str = "\x1b[2K";
 fn main(rt: HostRuntime) -> ExitCode {
     match run(&rt) {
         Ok(status) => ExitCode::from(status),
-        Err(Fault::Closed) => ExitCode::from(USAGE),
-        Err(Fault::Call(text)) => failed(&rt, text.as_str()),
-        Err(Fault::Write) => failed(&rt, "soqavise: cannot write\n"),
-        Err(Fault::Memory) => failed(&rt, "soqavise: out of memory\n"),
+        Err(CallFault::Closed) => ExitCode::from(USAGE),
+        Err(CallFault::Call(text)) => failed(&rt, text.as_str()),
+        Err(CallFault::Write) => failed(&rt, "soqavise: cannot write\n"),
+        Err(CallFault::Memory) => failed(&rt, "soqavise: out of memory\n"),
     }
 }
 
@@ -50,15 +53,20 @@ fn failed(rt: &HostRuntime, text: &str) -> ExitCode {
 }
 
 /// Runs the program for its arguments. Returns its exit status.
-fn run(rt: &HostRuntime) -> Result<u8, Fault> {
+fn run(rt: &HostRuntime) -> Result<u8, CallFault> {
     let alloc = rt.alloc();
     let words = words_of(rt)?;
+    if let [_, word, ..] = words.as_slice() {
+        if word.as_str() == "rust" {
+            return Err(CallFault::of_call(alloc, &RENAMED));
+        }
+    }
     let matches = match whole_command(alloc)?.try_get_matches_from(words.as_slice()) {
         Ok(matches) => matches,
         Err(error) => return refuse_words(rt, words.as_slice(), error),
     };
-    if let Some(("rust", inner)) = matches.subcommand() {
-        return run_rust(rt, inner);
+    if let Some(("generate", inner)) = matches.subcommand() {
+        return run_generate(rt, inner);
     }
     match call_of(alloc, &matches)? {
         Some(call) => run_call(rt, &call),
@@ -68,19 +76,19 @@ fn run(rt: &HostRuntime) -> Result<u8, Fault> {
 
 /// Returns the program's command with all subcommands.
 fn whole_command<'a>(alloc: Global) -> Result<Command<'a>, AllocError> {
-    let rust = rust_command(alloc)?;
-    command(alloc)?.subcommand(rust)
+    let generate = generate_command(alloc)?;
+    command(alloc)?.subcommand(generate)
 }
 
 /// Prints why these words are no call, or the help that they ask for: what is said of the same words
 /// with escapes, since it has words in it. Returns the exit status.
-fn refuse_words(rt: &HostRuntime, words: &[String], error: clap::Error) -> Result<u8, Fault> {
+fn refuse_words(rt: &HostRuntime, words: &[String], error: clap::Error) -> Result<u8, CallFault> {
     let shown = words_shown(rt.alloc(), words)?;
     let error = match whole_command(rt.alloc())?.try_get_matches_from(shown.as_slice()) {
         Ok(_) => error,
         Err(error) => error,
     };
-    error.print(rt).map_err(Fault::of_write)?;
+    error.print(rt).map_err(CallFault::of_write)?;
     Ok(if error.exit_code() == 0 { 0 } else { USAGE })
 }
 
@@ -101,7 +109,7 @@ fn sources_of<'a>(
 }
 
 /// Runs a call of the program.
-fn run_call(rt: &HostRuntime, call: &Call) -> Result<u8, Fault> {
+fn run_call(rt: &HostRuntime, call: &Call) -> Result<u8, CallFault> {
     let alloc = rt.alloc();
     let mut texts = Vec::new(alloc);
     for name in &call.modules {
@@ -118,11 +126,11 @@ fn run_call(rt: &HostRuntime, call: &Call) -> Result<u8, Fault> {
     }
     let sources = sources_of(alloc, texts.as_slice())?;
     let (read, faults) = modules_of(alloc, sources.as_slice())?;
-    eprint!(rt; "{faults}").map_err(Fault::of_write)?;
+    eprint!(rt; "{faults}").map_err(CallFault::of_write)?;
     if call.work == Work::Types {
         let warnings = warnings_of(alloc, &read)?;
-        eprint!(rt; "{warnings}").map_err(Fault::of_write)?;
-        let are_whole = run_types(rt, &read, call.type_name.as_ref())? && faults.is_empty();
+        eprint!(rt; "{warnings}").map_err(CallFault::of_write)?;
+        let are_whole = run_types(rt, call, &read)? && faults.is_empty();
         return Ok(if are_whole { 0 } else { REFUSED });
     }
     run_work(rt, call, Catalog::new(alloc, Some(&read)))
@@ -145,16 +153,16 @@ pub(crate) fn read_text(rt: &HostRuntime, name: &str) -> io::Result<String> {
 }
 
 /// Prints the types of the modules, or one of them. Returns whether each has a schema.
-fn run_types(rt: &HostRuntime, read: &Modules<'_>, name: Option<&String>) -> Result<bool, Fault> {
-    let mut output = BufWriter::new(rt.alloc(), rt.stdout()).map_err(Fault::of_write)?;
-    let are_whole = match name {
+fn run_types(rt: &HostRuntime, call: &Call, read: &Modules<'_>) -> Result<bool, CallFault> {
+    let mut output = BufWriter::new(rt.alloc(), rt.stdout()).map_err(CallFault::of_write)?;
+    let are_whole = match &call.type_name {
         Some(name) => {
-            print_notation(rt.alloc(), read, name, &mut output)?;
+            print_notation(rt.alloc(), read, name.as_str(), &mut output)?;
             true
         }
-        None => print_types(rt.alloc(), read, &mut output)?,
+        None => print_types(rt.alloc(), read, !call.modules.is_empty(), &mut output)?,
     };
-    output.flush().map_err(Fault::of_write)?;
+    output.flush().map_err(CallFault::of_write)?;
     Ok(are_whole)
 }
 
@@ -169,7 +177,7 @@ fn is_colored(rt: &HostRuntime, color: ColorChoice) -> bool {
 }
 
 /// Runs the work of a call on each file, or on standard input without one. Returns the exit status.
-fn run_work(rt: &HostRuntime, call: &Call, catalog: Catalog<'_>) -> Result<u8, Fault> {
+fn run_work(rt: &HostRuntime, call: &Call, catalog: Catalog<'_>) -> Result<u8, CallFault> {
     let alloc = rt.alloc();
     let mut catalog = catalog;
     catalog.resolve_named(alloc, call)?;
@@ -178,7 +186,7 @@ fn run_work(rt: &HostRuntime, call: &Call, catalog: Catalog<'_>) -> Result<u8, F
         call,
         catalog,
         is_colored: is_colored(rt, call.color),
-        output: BufWriter::new(alloc, rt.stdout()).map_err(Fault::of_write)?,
+        output: BufWriter::new(alloc, rt.stdout()).map_err(CallFault::of_write)?,
         refusals: rt.stderr(),
         is_refused: false,
     };
@@ -195,7 +203,7 @@ fn run_work(rt: &HostRuntime, call: &Call, catalog: Catalog<'_>) -> Result<u8, F
 fn run_files<W: Write + Drop, E: Write + Drop>(
     rt: &HostRuntime,
     session: &mut Session<'_, W, E>,
-) -> Result<u8, Fault> {
+) -> Result<u8, CallFault> {
     let call = session.call;
     let files = call.files.as_slice();
     let has_progress = has_progress(rt, call.work, files.len());
@@ -216,7 +224,7 @@ fn run_files<W: Write + Drop, E: Write + Drop>(
         }
     }
     if has_progress {
-        eprint!(rt; "{ERASED}").map_err(Fault::of_write)?;
+        eprint!(rt; "{ERASED}").map_err(CallFault::of_write)?;
     }
     Ok(status)
 }
@@ -226,7 +234,7 @@ fn file_source<W: Write + Drop, E: Write + Drop>(
     rt: &HostRuntime,
     name: &str,
     session: &mut Session<'_, W, E>,
-) -> Result<u8, Fault> {
+) -> Result<u8, CallFault> {
     if name == STDIN {
         return source(rt, "standard input", rt.stdin(), session);
     }
@@ -247,8 +255,8 @@ fn has_progress(rt: &HostRuntime, work: Work, count: usize) -> bool {
 }
 
 /// Prints how many files are done, on a line over which the next output is printed.
-fn print_progress(rt: &HostRuntime, done: usize, count: usize) -> Result<(), Fault> {
-    eprint!(rt; "{ERASED}{done} of {count}\r").map_err(Fault::of_write)
+fn print_progress(rt: &HostRuntime, done: usize, count: usize) -> Result<(), CallFault> {
+    eprint!(rt; "{ERASED}{done} of {count}\r").map_err(CallFault::of_write)
 }
 
 /// Reads all input, and processes its messages.
@@ -257,10 +265,10 @@ fn source<R: Read + Drop, W: Write + Drop, E: Write + Drop>(
     name: &str,
     reader: R,
     session: &mut Session<'_, W, E>,
-) -> Result<u8, Fault> {
+) -> Result<u8, CallFault> {
     let alloc = rt.alloc();
     if session.call.has_lines {
-        let reader = BufReader::new(alloc, reader).map_err(Fault::of_write)?;
+        let reader = BufReader::new(alloc, reader).map_err(CallFault::of_write)?;
         session.lines(name, reader)?;
         return Ok(0);
     }
@@ -276,16 +284,20 @@ fn source<R: Read + Drop, W: Write + Drop, E: Write + Drop>(
 }
 
 /// Prints that a file can't be read.
-fn unreadable(rt: &HostRuntime, name: &str, error: &io::Error) -> Result<u8, Fault> {
+fn unreadable(rt: &HostRuntime, name: &str, error: &io::Error) -> Result<u8, CallFault> {
     if error.kind() == ErrorKind::OutOfMemory {
-        return Err(Fault::Memory);
+        return Err(CallFault::Memory);
     }
     unreadable_as(rt, name, error)
 }
 
 /// Prints that a file can't be read for this reason.
-fn unreadable_as<T: fmt::Display>(rt: &HostRuntime, name: &str, reason: &T) -> Result<u8, Fault> {
+fn unreadable_as<T: fmt::Display>(
+    rt: &HostRuntime,
+    name: &str,
+    reason: &T,
+) -> Result<u8, CallFault> {
     let name = name_shown(rt.alloc(), name)?;
-    eprintln!(rt; "{name}: cannot read: {reason}").map_err(Fault::of_write)?;
+    eprintln!(rt; "{name}: cannot read: {reason}").map_err(CallFault::of_write)?;
     Ok(USAGE)
 }

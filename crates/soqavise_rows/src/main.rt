@@ -4,7 +4,9 @@
 
 use clap::ArgMatches;
 use rasn_compiler::{Modules, Source};
-use rasn_print::{Call, Catalog, ColorChoice, Fault, Session, Work, call_of, command, modules_of};
+use rasn_print::{
+    Call, CallFault, Catalog, ColorChoice, Session, Work, call_of, command, modules_of,
+};
 use std::alloc::{AllocError, Global};
 use std::io::{BufRead, BufReader, BufWriter, Write};
 use std::process::ExitCode;
@@ -28,24 +30,24 @@ const POINTS: Source<'static> = Source {
 };
 
 /// Prints each row, and what its call prints.
-fn run_rows(rt: &HostRuntime) -> Result<(), Fault> {
+fn run_rows(rt: &HostRuntime) -> Result<(), CallFault> {
     let alloc = rt.alloc();
     let (read, _) = modules_of(alloc, &[POINTS])?;
-    let input = BufReader::new(alloc, rt.stdin()).map_err(Fault::of_write)?;
-    let mut output = BufWriter::new(alloc, rt.stdout()).map_err(Fault::of_write)?;
+    let input = BufReader::new(alloc, rt.stdin()).map_err(CallFault::of_write)?;
+    let mut output = BufWriter::new(alloc, rt.stdout()).map_err(CallFault::of_write)?;
     for line in input.lines(alloc) {
-        let line = line.map_err(Fault::of_write)?;
-        writeln!(output, "{line}").map_err(Fault::of_write)?;
+        let line = line.map_err(CallFault::of_write)?;
+        writeln!(output, "{line}").map_err(CallFault::of_write)?;
         if !line.is_empty() && !line.starts_with('#') {
             let answer = answer_of(alloc, &read, &line)?;
-            writeln!(output, "{answer}").map_err(Fault::of_write)?;
+            writeln!(output, "{answer}").map_err(CallFault::of_write)?;
         }
     }
-    output.flush().map_err(Fault::of_write)
+    output.flush().map_err(CallFault::of_write)
 }
 
 /// Returns what the call of a line prints, and `status 1` if that is its exit status.
-fn answer_of(alloc: Global, read: &Modules<'_>, line: &str) -> Result<String, Fault> {
+fn answer_of(alloc: Global, read: &Modules<'_>, line: &str) -> Result<String, CallFault> {
     let (call, input) = match line.split_once('"') {
         Some((call, text)) => (call.trim_ascii_end(), unquoted(alloc, text)?),
         None => match line.rsplit_once(' ') {
@@ -67,7 +69,7 @@ fn answer_to_words(
     read: &Modules<'_>,
     words: &[&str],
     input: &[u8],
-) -> Result<String, Fault> {
+) -> Result<String, CallFault> {
     match command(alloc)?.try_get_matches_from(words) {
         Ok(matches) => answer_to_matches(alloc, read, matches, input),
         Err(error) => Ok(format!(in alloc; "{error}")?),
@@ -80,7 +82,7 @@ fn answer_to_matches(
     read: &Modules<'_>,
     matches: ArgMatches<'_>,
     input: &[u8],
-) -> Result<String, Fault> {
+) -> Result<String, CallFault> {
     let Some(call) = call_of(alloc, &matches)? else {
         return Ok(String::from_str(alloc, "is no call")?);
     };
@@ -103,7 +105,12 @@ fn unquoted(alloc: Global, text: &str) -> Result<String, AllocError> {
 }
 
 /// Returns what a call prints for an input.
-fn run(alloc: Global, call: &Call, catalog: Catalog<'_>, input: &[u8]) -> Result<String, Fault> {
+fn run(
+    alloc: Global,
+    call: &Call,
+    catalog: Catalog<'_>,
+    input: &[u8],
+) -> Result<String, CallFault> {
     let mut session = Session {
         alloc,
         call,
@@ -119,7 +126,7 @@ fn run(alloc: Global, call: &Call, catalog: Catalog<'_>, input: &[u8]) -> Result
     } else if call.has_lines {
         session.lines(
             "input",
-            BufReader::new(alloc, input).map_err(Fault::of_write)?,
+            BufReader::new(alloc, input).map_err(CallFault::of_write)?,
         )?;
     } else {
         session.input("input", input)?;

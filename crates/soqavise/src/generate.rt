@@ -1,10 +1,10 @@
-//! The subcommand `rust`, which writes a crate of typed Rattle for the types of modules.
+//! The subcommand `generate`, which writes a crate of typed Rattle for the types of modules.
 
 use crate::words::{is_marked, name_shown};
 use crate::{NO_NAME, REFUSED, USAGE, read_text, sources_of, unreadable, unreadable_as};
 use clap::{Arg, ArgAction, ArgMatches, Command};
 use rasn_compiler::{Modules, Source};
-use rasn_print::{Fault, modules_of};
+use rasn_print::{CallFault, modules_of};
 use rasn_rattle::{File, Options, crate_files, is_crate_name, types_held};
 use rasn_text::{Escaping, visible};
 use std::alloc::{AllocError, Global};
@@ -30,7 +30,7 @@ const WITHOUT: &str = "soqavise: `soqavise types --module FILE` prints which typ
     and --type TYPE writes a crate without them\n";
 
 /// Returns the subcommand: its arguments and help.
-pub(crate) fn rust_command<'a>(alloc: Global) -> Result<Command<'a>, AllocError> {
+pub(crate) fn generate_command<'a>(alloc: Global) -> Result<Command<'a>, AllocError> {
     let files = Arg::new(alloc, "file")
         .value_name("FILE")
         .num_args(1..)
@@ -41,11 +41,13 @@ pub(crate) fn rust_command<'a>(alloc: Global) -> Result<Command<'a>, AllocError>
         .value_name("FOLDER")
         .required(true)
         .help("The folder of the crate, which has its name; files of these types are overwritten");
-    Command::new(alloc, "rust")
+    Command::new(alloc, "generate")
         .about(
             "Writes the types of modules as a crate of Rattle, and prints its line of crates.txt",
         )
-        .after_help("Example: soqavise rust My.asn1 --out crates/mine --message Certificate=der")
+        .after_help(
+            "Example: soqavise generate My.asn1 --out crates/mine --message Certificate=der",
+        )
         .arg(files)?
         .arg(out)?
         .arg(repeated(alloc, "message", "TYPE=RULES", MESSAGE))?
@@ -65,7 +67,7 @@ fn repeated<'a>(alloc: Global, name: &'a str, value: &'a str, help: &'a str) -> 
 }
 
 /// Runs the subcommand. Returns its exit status.
-pub(crate) fn run_rust(rt: &HostRuntime, matches: &ArgMatches<'_>) -> Result<u8, Fault> {
+pub(crate) fn run_generate(rt: &HostRuntime, matches: &ArgMatches<'_>) -> Result<u8, CallFault> {
     let folder = matches.get_str("out").unwrap_or("");
     let name = crate_name(folder);
     if !is_crate_name(name) {
@@ -109,9 +111,9 @@ fn form_of(option: &str) -> &'static str {
 }
 
 /// Prints what is wrong about a word of the command line. Returns the exit status.
-fn wrong(rt: &HostRuntime, word: &str, reason: &str) -> Result<u8, Fault> {
+fn wrong(rt: &HostRuntime, word: &str, reason: &str) -> Result<u8, CallFault> {
     let word = name_shown(rt.alloc(), word)?;
-    eprintln!(rt; "{word}: {reason}").map_err(Fault::of_write)?;
+    eprintln!(rt; "{word}: {reason}").map_err(CallFault::of_write)?;
     Ok(USAGE)
 }
 
@@ -121,7 +123,7 @@ fn run_options(
     matches: &ArgMatches<'_>,
     options: Options,
     folder: &str,
-) -> Result<u8, Fault> {
+) -> Result<u8, CallFault> {
     let mut texts = Vec::new(rt.alloc());
     for file in matches.get_strs("file").unwrap_or(&[]) {
         if is_marked(file) {
@@ -144,7 +146,7 @@ fn run_files<'a>(
     values: &'a [&'a str],
     options: Options,
     folder: &str,
-) -> Result<u8, Fault> {
+) -> Result<u8, CallFault> {
     let mut texts = texts;
     let mut options = options;
     let wanted = texts.len();
@@ -191,7 +193,7 @@ fn run_texts<'a>(
     wanted: usize,
     options: &Options,
     folder: &str,
-) -> Result<u8, Fault> {
+) -> Result<u8, CallFault> {
     let alloc = options.alloc();
     let sources = sources_of(alloc, texts.as_slice())?;
     let own = sources.as_slice().get(..wanted).unwrap_or(&[]);
@@ -204,7 +206,7 @@ fn run_texts<'a>(
         let text = format!(in alloc;
             "no type {name} is known; `soqavise types` prints those that are known"
         )?;
-        return Err(Fault::of_call(alloc, &text));
+        return Err(CallFault::of_call(alloc, &text));
     }
     match types_held(options, &read, own.modules.len())? {
         Ok(held) => {
@@ -223,8 +225,8 @@ fn run_texts<'a>(
 }
 
 /// Prints the faults of modules.
-fn refused(rt: &HostRuntime, faults: &str) -> Result<u8, Fault> {
-    eprint!(rt; "{faults}").map_err(Fault::of_write)?;
+fn refused(rt: &HostRuntime, faults: &str) -> Result<u8, CallFault> {
+    eprint!(rt; "{faults}").map_err(CallFault::of_write)?;
     Ok(REFUSED)
 }
 
@@ -235,7 +237,7 @@ fn write_files(
     folder: &str,
     options: &Options,
     files: &[File],
-) -> Result<u8, Fault> {
+) -> Result<u8, CallFault> {
     for file in files {
         let status = write_file(rt, folder, file)?;
         if status != 0 {
@@ -244,17 +246,17 @@ fn write_files(
         if let Some(reason) = file.reason {
             let (folder, name) = (name_shown(rt.alloc(), folder)?, file.name.as_str());
             eprintln!(rt; "{folder}/src/{name}.rt: an open type, since {reason}").map_err(
-                Fault::of_write,
+                CallFault::of_write,
             )?;
         }
     }
     let line = visible(rt.alloc(), Escaping::Line, options.crates_line()?.as_str())?;
-    println!(rt; "{line}").map_err(Fault::of_write)?;
+    println!(rt; "{line}").map_err(CallFault::of_write)?;
     Ok(0)
 }
 
 /// Writes a file of a crate and its answers. Returns the exit status.
-fn write_file(rt: &HostRuntime, folder: &str, file: &File) -> Result<u8, Fault> {
+fn write_file(rt: &HostRuntime, folder: &str, file: &File) -> Result<u8, CallFault> {
     let alloc = rt.alloc();
     let name = file.name.as_str();
     for answers in &file.answers {
@@ -271,7 +273,7 @@ fn write_file(rt: &HostRuntime, folder: &str, file: &File) -> Result<u8, Fault> 
 }
 
 /// Writes a text into a folder, which is made if it isn't there. Returns the exit status.
-fn write_text(rt: &HostRuntime, folder: &str, name: &str, text: &str) -> Result<u8, Fault> {
+fn write_text(rt: &HostRuntime, folder: &str, name: &str, text: &str) -> Result<u8, CallFault> {
     if let Err(error) = fs::create_dir_all(rt, folder) {
         return unwritable(rt, folder, &error);
     }
@@ -283,8 +285,8 @@ fn write_text(rt: &HostRuntime, folder: &str, name: &str, text: &str) -> Result<
 }
 
 /// Prints that a file can't be written.
-fn unwritable(rt: &HostRuntime, name: &str, error: &io::Error) -> Result<u8, Fault> {
+fn unwritable(rt: &HostRuntime, name: &str, error: &io::Error) -> Result<u8, CallFault> {
     let name = name_shown(rt.alloc(), name)?;
-    eprintln!(rt; "{name}: cannot write: {error}").map_err(Fault::of_write)?;
+    eprintln!(rt; "{name}: cannot write: {error}").map_err(CallFault::of_write)?;
     Ok(USAGE)
 }

@@ -1,0 +1,60 @@
+-- Parts that are asked for by their paths.
+use Rattle.std.proofs.Common.{◌≡◌, ◌⊎◌, ◌<◌, ◌+◌, inl, inr, ℕ, zero, suc, List, [], ◌∷◌, ◌++◌, Some, length, refl, sym, ap, ◌∙◌, subst, take}
+use Rattle.std.specs.Prelude.{slice_get}
+use Rattle.rasn_dynamic.specs.declared.steps.Step.{Step}
+use Rattle.rasn_schema.specs.declared.type_id.TypeId.{TypeId}
+use Rattle.rasn_schema.specs.declared.types.«Type».{«Type»}
+use Rattle.rasn_schema.specs.declared.value.Value.{Value}
+use Rattle.rasn_schema.specs.declared.view.View.{View}
+use Rattle.rasn_schema.proofs.Lists.{some_is}
+use Rattle.rasn_print.specs.Queries.{IsStepTo, LeadTo, Holds, IsHeldIn, IsWithin, IsAmong}
+
+-- One more step.
+pub leads_on : (types : List «Type») (steps : List Step) (step : Step) (k : ℕ) (v : Value) (m : ℕ) (w : Value) (id : TypeId) (part : Value)
+    → LeadTo types steps k v m w → IsStepTo types step m w id part → LeadTo types (steps ++ step ∷ []) k v id.0 part
+unfolding LeadTo
+leads_on types [] step k v m w id part (e, f) s =
+    (id, part, subst (λ z. IsStepTo types step z v id part) (sym e) (subst (λ z. IsStepTo types step m z id part) (sym f) s), (refl, refl))
+leads_on types (first ∷ steps) step k v m w id part (next, x, here, more) s = (next, x, here, leads_on types steps step next.0 x m w id part more s)
+
+pub leads_nowhere : (types : List «Type») (k : ℕ) (v : Value) → LeadTo types [] k v k v
+unfolding LeadTo
+leads_nowhere types k v = (refl, refl)
+
+-- One more level.
+holds_on : (types : List «Type») (n k : ℕ) (v : Value) (m : ℕ) (w : Value) (id : TypeId) (part : Value)
+    → IsHeldIn types n k v m w → Holds types m w id part → IsHeldIn types (suc n) k v id.0 part
+unfolding IsHeldIn
+holds_on types zero k v m w id part (e, f) h =
+    (id, part, subst (λ z. Holds types z v id part) (sym e) (subst (λ z. Holds types m z id part) (sym f) h), (refl, refl))
+holds_on types (suc n) k v m w id part (next, x, here, more) h = (next, x, here, holds_on types n next.0 x m w id part more h)
+
+pub within_itself : (view part : View) → part.schema.now ≡ view.schema.now → part.type_id ≡ view.type_id → part.value.now ≡ view.value.now → IsWithin view part
+unfolding IsHeldIn
+within_itself view part s e f = record { schema = s; levels = 0; held = (sym (ap (λ (x : TypeId). x.0) e), sym f) }
+
+pub within_more : (view holder part : View) → IsWithin view holder → part.schema.now ≡ holder.schema.now
+    → Holds holder.schema.now.types.items holder.type_id.0 holder.value.now part.type_id part.value.now → IsWithin view part
+within_more view holder part within s h =
+    let types = view.schema.now.types.items in
+    let g = subst (λ z. Holds z.types.items holder.type_id.0 holder.value.now part.type_id part.value.now) within.schema h in
+    record {
+      schema = s ∙ within.schema;
+      levels = suc within.levels;
+      held = holds_on types within.levels view.type_id.0 view.value.now holder.type_id.0 holder.value.now part.type_id part.value.now within.held g;
+    }
+
+-- ---- lists
+
+pub among_more : (views : List View) (last view : View) → IsAmong (views ++ last ∷ []) view → IsAmong views view ⊎ (view ≡ last)
+among_more [] last view (zero, e) = inr (some_is view last e)
+among_more [] last view (suc i, e) = cc
+among_more (x ∷ views) last view (zero, e) = inl (0, e)
+among_more (x ∷ views) last view (suc i, e) = up (among_more views last view (i, e))
+  where
+    up : IsAmong views view ⊎ (view ≡ last) → IsAmong (x ∷ views) view ⊎ (view ≡ last)
+    up (inl (j, f)) = inl (suc j, f)
+    up (inr f) = inr f
+
+pub none_among : (view : View) → IsAmong [] view → ⊥
+none_among view (i, e) = cc
