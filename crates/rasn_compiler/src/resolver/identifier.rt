@@ -159,10 +159,10 @@ fn may_begin(arcs: &[u32]) -> bool {
 
 /// Returns whether a component is the name of a value, of another module if that is named.
 fn is_value_name(arc: &Arc<'_>) -> bool {
-    match arc.spelled.value {
-        Written::Name { module, .. } => module.is_some() || arc.name.is_some(),
-        _ => false,
-    }
+    let Written::Name { module, .. } = arc.spelled.value else {
+        return false;
+    };
+    module.is_some() || arc.name.is_some()
 }
 
 /// Names that need no number: the number before them, if there is one, and their own (X.660 A).

@@ -187,10 +187,11 @@ impl<'text> Modules<'text> {
         let Assigned::Type(of) = assigned else {
             return None;
         };
-        match &self.module_at(module)?.types.get(of.0)?.base {
-            Base::Reference { module, name, .. } => Some((*module, *name)),
-            _ => None,
-        }
+        let Base::Reference { module, name, .. } = &self.module_at(module)?.types.get(of.0)?.base
+        else {
+            return None;
+        };
+        Some((*module, *name))
     }
 }
 
