@@ -189,6 +189,7 @@ fn known_number(has_prefix: bool, before: &[u32], name: Option<&str>) -> Option<
     let parent = match before {
         [] if !has_prefix => None,
         [parent] if !has_prefix => Some(*parent),
+        [0, 0] if !has_prefix => return series_number(name),
         _ => return None,
     };
     for (under, known, number) in &KNOWN_ARCS {
@@ -197,4 +198,16 @@ fn known_number(has_prefix: bool, before: &[u32], name: Option<&str>) -> Option<
         }
     }
     None
+}
+
+/// Returns the number of a series of recommendations, whose name is a letter (X.660 A).
+fn series_number(name: &str) -> Option<u32> {
+    let [letter] = name.as_bytes() else {
+        return None;
+    };
+    let letter = *letter;
+    match letter {
+        b'a'..=b'z' => Some(u32::from(letter - b'a') + 1),
+        _ => None,
+    }
 }
