@@ -331,7 +331,7 @@ fn component_for(types: &[Type], components: &[Component], next: usize, tag: Tag
 fn write_components<'place, W: Write + Drop>(
     lines: &mut Lines<'_, W>,
     place: LinePlace<'place>,
-    schema: &Schema,
+    schema: &'place Schema,
     ty: &'place Type,
     octets: &[u8],
 ) -> Result<(), CallFault> {
