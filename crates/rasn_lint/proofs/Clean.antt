@@ -9,7 +9,6 @@ use Rattle.std.specs.List.Sorted.{IsNonDecreasingBy, IsPermutation}
 use Rattle.std.proofs.lemmas.List.Sorted.{length_permutation}
 use Rattle.rasn_types.specs.declared.types.codec.Codec.TheVariants.{Ber, Der}
 use Rattle.rasn_types.specs.Errors.{IsOutOfMemory}
-use Rattle.rasn_types.specs.Shapes.{Tree}
 use Rattle.rasn_types.specs.Grammar.{Reads, top}
 use Rattle.rasn_de.specs.Outcomes.{Exact, Got}
 use Rattle.rasn_schema.specs.declared.types.«Type».{«Type»}
@@ -195,16 +194,17 @@ module _ (types : List «Type») (id : ℕ) (input : List ℕ) where
 
   all_if_open : (es : List Span) → AllByRecursion (HasFormed types) (open_of types es) → AllByRecursion (HasFormed types) es
   all_if_open [] h = tt
-  all_if_open (e ∷ es) h = go (is_open (slice_get types e.id.0)) refl h
+  all_if_open (e ∷ es) h = go (is_open (slice_get types e.id.0)) refl (λ k. all_if_open es k) h
     where
-      go : (b : Bool) → is_open (slice_get types e.id.0) ≡ b → AllByRecursion (HasFormed types) (if b then e ∷ open_of types es else open_of types es) → AllByRecursion (HasFormed types) (e ∷ es)
-      go true q k = (k.0, all_if_open es k.1)
-      go false q k = (formed_of e false q refl, all_if_open es k)
+      go : (b : Bool) → is_open (slice_get types e.id.0) ≡ b → (AllByRecursion (HasFormed types) (open_of types es) → AllByRecursion (HasFormed types) es)
+          → AllByRecursion (HasFormed types) (if b then e ∷ open_of types es else open_of types es) → AllByRecursion (HasFormed types) (e ∷ es)
+      go true q others k = (k.0, others k.1)
+      go false q others k = (formed_of e false q refl, others k)
 
   -- The open types of a message are well formed.
-  pub open_first : (o : ListedParts) → AreOpenPartsOf types Der id input o → o.rest.now ≡ [] → (open : List Span) → open ≡ o.list.items → IsFirstOr types (length input) [] open None
+  pub open_first : (o : ListedParts) → AreOpenPartsOf types Der id input o → o.rest.now ≡ [] → (list : List Span) → list ≡ o.list.items → IsFirstOr types (length input) [] list None
       → IsFirstDeparture Examined types id input None
-  open_first o (all, are, is) e open same h = parts_first all o.rest.now are e None (all_if_open all (subst (AllByRecursion (HasFormed types)) (same ∙ is) h))
+  open_first o (all, are, is) e list same h = parts_first all o.rest.now are e None (all_if_open all (subst (AllByRecursion (HasFormed types)) (same ∙ is) h))
 
 pub some_departed : (v : Vec Departure Global) → false ≡ (vec_len v == 0) → v.items ≢ []
 some_departed v e q = let n : length v.items ≡ 0 = ap length q in grind (arith, nat_tests)

@@ -1,5 +1,5 @@
 -- Facts about an unknown component of a SET (X.680 27) that were worked out by hand: a NULL beside a BOOLEAN.
-use Rattle.std.specs.Prelude.{◌≡◌, ◌-◌, ◌^◌, ℕ, List, [], ◌∷◌, Option, Some, None, String, Vec}
+use Rattle.std.specs.Prelude.{◌≡◌, ℕ, List, [], ◌∷◌, Option, Some, None, String, Vec}
 use Rattle.std.specs.Global.{Global}
 use Rattle.rasn_types.specs.declared.error.decode.DecodeError.{DecodeError}
 use Rattle.rasn_types.specs.declared.error.decode.DerDecodeErrorKind.TheVariants.{SetComponentsOutOfOrder}
