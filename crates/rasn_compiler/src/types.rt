@@ -151,7 +151,16 @@ impl<'tokens, 'text> Parser<'tokens, 'text> {
                 Made::Selected(name)
             }
             Kind::Upper => Made::Reference,
-            _ => Made::Simple,
+            Kind::Lower
+            | Kind::Field
+            | Kind::Number
+            | Kind::Text
+            | Kind::Digits
+            | Kind::Fixed
+            | Kind::Blank
+            | Kind::Unfinished
+            | Kind::Unknown
+            | Kind::End => Made::Simple,
         }
     }
 
@@ -236,7 +245,16 @@ impl<'tokens, 'text> Parser<'tokens, 'text> {
                 self.class_field(position, None, object)
             }
             Kind::Fixed => self.worded_type(),
-            _ => Err(self.refuse("a type")),
+            Kind::Upper
+            | Kind::Lower
+            | Kind::Field
+            | Kind::Number
+            | Kind::Text
+            | Kind::Digits
+            | Kind::Blank
+            | Kind::Unfinished
+            | Kind::Unknown
+            | Kind::End => Err(self.refuse("a type")),
         }
     }
 

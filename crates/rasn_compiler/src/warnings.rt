@@ -4,7 +4,10 @@ use crate::modules::Modules;
 use crate::position::Position;
 use crate::resolver::{MAX_NAMES, Place, Resolver};
 use crate::steps::Steps;
-use crate::tree::{Assigned, Base, Builtin, Import, Meaning, Module, Tag, TagClass, Tagging, Type};
+use crate::tree::{
+    Assigned, Assignment, Base, Builtin, Import, Meaning, Module, Tag, TagClass, Tagging, Type,
+    TypeIndex, Value,
+};
 use std::alloc::{AllocError, Global};
 use std::collections::BTreeSet;
 
@@ -127,17 +130,49 @@ impl<'modules, 'text> Search<'modules, 'text> {
         })
     }
 
-    /// Adds the values that aren't of their type (X.680 16).
+    /// Adds the values that aren't of their type (X.680 16). Objects of a class (X.681 11), and what
+    /// has parameters, aren't looked at.
     fn look_at_values(&mut self, index: usize, module: &Module<'text>) -> Result<(), AllocError> {
         for assignment in &module.assignments {
             if let Assigned::Value { of, value } = assignment.assigned {
-                let place = Place::of(index);
-                let position = assignment.position;
-                let read = self.resolver.default_value(place, of, value, position);
-                if let Some(fault) = value_fault(read, assignment.name)? {
-                    self.found.push(fault)?;
+                if assignment.parameters.is_none() && !self.is_of_class(index, module, of) {
+                    self.look_at_value(index, assignment, of, value)?;
                 }
             }
+        }
+        Ok(())
+    }
+
+    /// Returns whether a governor in a module is the name of a class (X.681 11).
+    fn is_of_class(&self, index: usize, module: &Module<'text>, of: TypeIndex) -> bool {
+        let Some(governor) = module.types.get(of.0) else {
+            return false;
+        };
+        let Base::Reference {
+            module: outside,
+            name,
+            ..
+        } = &governor.base
+        else {
+            return false;
+        };
+        let modules = self.resolver.modules;
+        modules.is_class_at(index, *outside, name, governor.position)
+    }
+
+    /// Adds that a value isn't of its type (X.680 16), unless it is.
+    fn look_at_value(
+        &mut self,
+        index: usize,
+        assignment: &Assignment<'text>,
+        of: TypeIndex,
+        value: Value<'text>,
+    ) -> Result<(), AllocError> {
+        let read = self
+            .resolver
+            .default_value(Place::of(index), of, value, assignment.position);
+        if let Some(fault) = value_fault(read, assignment.name)? {
+            self.found.push(fault)?;
         }
         Ok(())
     }

@@ -31,7 +31,12 @@ impl<'modules, 'text> Resolver<'modules, 'text> {
                 Value::Name { module, name } => {
                     (at, value) = self.number_meant(at, module, name, position)?;
                 }
-                _ => return Err(self.expected(place, position, "a number")),
+                Value::Boolean(_)
+                | Value::Null
+                | Value::Special(_)
+                | Value::Text(_)
+                | Value::Digits(_)
+                | Value::Unread(_) => return Err(self.expected(place, position, "a number")),
             }
         }
         Err(self.beyond(place, position, TOO_MANY_NAMES))
