@@ -1,4 +1,4 @@
-pub mod Offsets
+pub mod PartOffsets
 pub mod Queries
 pub mod Verdicts
 pub mod Worked

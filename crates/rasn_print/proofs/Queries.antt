@@ -1,13 +1,14 @@
 -- Parts that are asked for by their paths.
-use Rattle.std.proofs.Common.{◌≡◌, ◌⊎◌, ◌<◌, ◌+◌, inl, inr, ℕ, zero, suc, List, [], ◌∷◌, ◌++◌, Some, length, refl, sym, ap, ◌∙◌, subst, take}
+use Rattle.std.proofs.Common.{◌≡◌, ◌≢◌, ◌⊎◌, ◌<◌, ◌+◌, inl, inr, ℕ, zero, suc, List, [], ◌∷◌, ◌++◌, Some, length, refl, sym, ap, ◌∙◌, subst, take}
 use Rattle.std.specs.Prelude.{slice_get}
+use Rattle.rasn_dynamic.specs.PathText.{AreStepsOf}
 use Rattle.rasn_dynamic.specs.declared.steps.Step.{Step}
 use Rattle.rasn_schema.specs.declared.type_id.TypeId.{TypeId}
 use Rattle.rasn_schema.specs.declared.types.«Type».{«Type»}
-use Rattle.rasn_schema.specs.declared.value.Value.{Value}
+use Rattle.rasn_schema.specs.declared.value.Value.{Value, Absent}
 use Rattle.rasn_schema.specs.declared.view.View.{View}
 use Rattle.rasn_schema.proofs.Lists.{some_is}
-use Rattle.rasn_print.specs.Queries.{IsStepTo, LeadTo, Holds, IsHeldIn, IsWithin, IsAmong}
+use Rattle.rasn_print.specs.Queries.{IsStepTo, LeadTo, Holds, IsHeldIn, IsWithin, IsAskedFor, IsAmong}
 
 -- One more step.
 pub leads_on : (types : List «Type») (steps : List Step) (step : Step) (k : ℕ) (v : Value) (m : ℕ) (w : Value) (id : TypeId) (part : Value)
@@ -16,6 +17,10 @@ unfolding LeadTo
 leads_on types [] step k v m w id part (e, f) s =
     (id, part, subst (λ z. IsStepTo types step z v id part) (sym e) (subst (λ z. IsStepTo types step m z id part) (sym f) s), (refl, refl))
 leads_on types (first ∷ steps) step k v m w id part (next, x, here, more) s = (next, x, here, leads_on types steps step next.0 x m w id part more s)
+
+pub leads_here : (types : List «Type») (k : ℕ) (v : Value) (m : ℕ) (w : Value) → k ≡ m → v ≡ w → LeadTo types [] k v m w
+unfolding LeadTo
+leads_here types k v m w e f = (e, f)
 
 pub leads_nowhere : (types : List «Type») (k : ℕ) (v : Value) → LeadTo types [] k v k v
 unfolding LeadTo
@@ -58,3 +63,46 @@ among_more (x ∷ views) last view (suc i, e) = up (among_more views last view (
 
 pub none_among : (view : View) → IsAmong [] view → ⊥
 none_among view (i, e) = cc
+
+-- ---- what was found so far
+
+-- The first of the views is the value itself.
+pub only_one : (view first x : View) (list new : List View) → list ≡ [] → new ≡ list ++ first ∷ [] → first.schema.now ≡ view.schema.now → first.type_id ≡ view.type_id
+    → first.value.now ≡ view.value.now → IsAmong new x → IsWithin view x
+only_one view first x list new e f s t v a = go (among_more [] first x (subst (λ l. IsAmong l x) (f ∙ ap (λ l. l ++ first ∷ []) e) a))
+  where
+    go : IsAmong [] x ⊎ (x ≡ first) → IsWithin view x
+    go (inl h) = absurd (none_among x h)
+    go (inr h) = subst (λ z. IsWithin view z) (sym h) (within_itself view first s t v)
+
+copied : (view holder copy : View) → IsWithin view holder → copy.schema.now ≡ holder.schema.now → copy.type_id ≡ holder.type_id → copy.value.now ≡ holder.value.now → IsWithin view copy
+copied view holder copy within s t v =
+    let types = view.schema.now.types.items in
+    record {
+      schema = s ∙ within.schema;
+      levels = within.levels;
+      held = subst (λ z. IsHeldIn types within.levels view.type_id.0 view.value.now z.0 copy.value.now) (sym t)
+          (subst (λ z. IsHeldIn types within.levels view.type_id.0 view.value.now holder.type_id.0 z) (sym v) within.held);
+    }
+
+-- The parts of one of the views follow the others.
+pub more_within : (view holder copy x : View) (old : List View) → IsWithin view holder → copy.schema.now ≡ holder.schema.now → copy.type_id ≡ holder.type_id
+    → copy.value.now ≡ holder.value.now → (IsAmong old x → IsWithin view x)
+    → IsAmong old x ⊎ ((x.schema.now ≡ copy.schema.now) × Holds copy.schema.now.types.items copy.type_id.0 copy.value.now x.type_id x.value.now) → IsWithin view x
+more_within view holder copy x old within s t v before (inl h) = before h
+more_within view holder copy x old within s t v before (inr (e, h)) = within_more view copy x (copied view holder copy within s t v) e h
+
+-- Steps lead on from one of the views.
+pub asked : (view holder part : View) (path : List ℕ) (steps slice : List Step) → AreStepsOf path steps → slice ≡ steps → IsWithin view holder
+    → part.schema.now ≡ holder.schema.now → LeadTo holder.schema.now.types.items slice holder.type_id.0 holder.value.now part.type_id.0 part.value.now
+    → part.value.now ≢ Absent → IsAskedFor view path part
+asked view holder part path steps slice are e within s leads present = record {
+  steps = steps;
+  are_steps = are;
+  holder = holder;
+  within = within;
+  schema = s ∙ within.schema;
+  leads = subst (λ z. LeadTo z.types.items steps holder.type_id.0 holder.value.now part.type_id.0 part.value.now) within.schema
+      (subst (λ l. LeadTo holder.schema.now.types.items l holder.type_id.0 holder.value.now part.type_id.0 part.value.now) e leads);
+  present = present;
+}

@@ -1,5 +1,5 @@
 -- Parts of a BOOLEAN that are asked for, worked out by hand.
-use Rattle.std.proofs.Common.{◌≡◌, inl, inr, ℕ, zero, suc, List, [], ◌∷◌, Bool, true, Some, Vec, Global, refl, sym, ap, ◌∙◌, subst}
+use Rattle.std.proofs.Common.{◌≡◌, inl, inr, ℕ, zero, suc, List, [], ◌∷◌, Bool, true, Some, Vec, Global, refl, sym, ap, ◌∙◌, subst, rules}
 use Rattle.std.specs.Prelude.{slice_get, codes}
 use Rattle.rasn_types.specs.declared.types.tag.Tag.{Tag}
 use Rattle.rasn_dynamic.specs.PathText.{AreStepsOf, steps_text}
@@ -20,13 +20,13 @@ module _ (names : Vec NamedNumber Global) (bit : Bool) where
   holds_none : (id : TypeId) (part : Value) → Holds (a_boolean names) 0 (Boolean bit) id part → ⊥
   holds_none id part (inl (inl (tag, e, f))) = cc
   holds_none id part (inl (inr (ty, e, chosen))) = chosen
-  holds_none id part (inr (i, at, e)) = cc
+  holds_none id part (inr (i, (at, e))) = cc
 
   no_step : (step : Step) (id : TypeId) (part : Value) → IsStepTo (a_boolean names) step 0 (Boolean bit) id part → ⊥
   unfolding IsInside
   no_step (Index index) id part (at, e) = cc
-  no_step (Name name) id part (ty, (zero, e), named) = cc
-  no_step (Name name) id part (ty, (suc n, tag, inner, e, more), named) = cc
+  no_step (Name name) id part (ty, ((zero, e), named)) = cc
+  no_step (Name name) id part (ty, ((suc n, (tag, inner, e, more)), named)) = cc
 
   only_itself : (n m : ℕ) (w : Value) → IsHeldIn (a_boolean names) n 0 (Boolean bit) m w → (0 ≡ m) × (Boolean bit ≡ w)
   unfolding IsHeldIn
@@ -47,7 +47,7 @@ pub worked_queries : (view : View) → IsBooleanView view → WorkedQueries view
 worked_queries view b = record {
   itself = record {
     steps = [];
-    are_steps = record { utf8 = tt; plain = tt; text_is = refl };
+    are_steps = record { utf8 = search rules; plain = tt; text_is = refl };
     holder = view;
     within = within_itself view view refl refl refl;
     schema = refl;

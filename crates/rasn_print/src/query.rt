@@ -100,7 +100,7 @@ fn push_part<'view, 'input>(
     views: &mut Vec<View<'view, 'input>>,
     part: View<'view, 'input>,
 ) -> Result<(), AllocError>
-    ensures { OnOk result ((view : View) → IsAmong views.new.items view → IsAmong views.old.items view ⊎ (view ≡ part)) }
+    ensures { OnOk result ((view : View) → IsAmong views.new.items view → IsAmong views.old.items view ⊎ (view ≡ part.entry)) }
 {
     match part.value {
         Value::Items(_) | Value::Elements(_) | Value::Chosen(_, _) => {

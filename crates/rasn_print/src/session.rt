@@ -380,15 +380,19 @@ impl<W: Write + Drop, E: Write + Drop> Session<'_, W, E> {
     fn line(&mut self, name: &str, index: usize, line: &[u8]) -> Result<(), CallFault> {
         let (alloc, number) = (self.alloc, index.saturating_add(1));
         let line = without_mark(line);
-        let form = form_of_line(alloc, self.call.work, line)?;
-        let octets = match &form {
-            Form::Octets | Form::Pem(_) => line,
-            Form::Text(octets) => octets.as_slice(),
+        match form_of_line(alloc, self.call.work, line)? {
+            Form::Octets | Form::Pem(_) => self.line_message(name, number, line),
+            Form::Text(octets) => self.line_message(name, number, &octets),
             Form::Wrong(reason) => {
-                let reason = Reason::of(alloc, reason)?;
-                return self.refuse_line(name, number, slice::from_ref(&reason));
+                let reason = Reason::of(alloc, &reason)?;
+                self.refuse_line(name, number, slice::from_ref(&reason))
             }
-        };
+        }
+    }
+
+    /// Works on the message of the line with this number: the octets that the line denotes, or its
+    /// JSON.
+    fn line_message(&mut self, name: &str, number: usize, octets: &[u8]) -> Result<(), CallFault> {
         let input = Input {
             octets,
             label: None,
@@ -398,7 +402,7 @@ impl<W: Write + Drop, E: Write + Drop> Session<'_, W, E> {
             Answer::Done(text) if text.is_empty() => self.write(b"ok\n"),
             Answer::Done(text) => {
                 if self.call.work == Work::Table {
-                    let number = number.to_string(alloc)?;
+                    let number = number.to_string(self.alloc)?;
                     self.write_cell(number.as_str())?;
                 }
                 self.write(&text)

@@ -328,11 +328,11 @@ fn component_for(types: &[Type], components: &[Component], next: usize, tag: Tag
 
 /// Writes the lines of the components of a value of a SEQUENCE or SET.
 #[cycle(write)]
-fn write_components<W: Write + Drop>(
+fn write_components<'place, W: Write + Drop>(
     lines: &mut Lines<'_, W>,
-    place: LinePlace<'_>,
-    schema: &Schema,
-    ty: &Type,
+    place: LinePlace<'place>,
+    schema: &'place Schema,
+    ty: &'place Type,
     octets: &[u8],
 ) -> Result<(), CallFault> {
     let alloc = place.alloc;
