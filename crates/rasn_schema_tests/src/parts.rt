@@ -266,7 +266,7 @@ fn open_values_are_listed_alone(rt: HostRuntime) {
         &[],
     );
     assert_open(&rt, rt.alloc(), &schema, 7, EXTENDED, &[(5, 6, 5)], &[]);
-    assert_open(&rt, rt.alloc(), &schema, 3, LIST, &[], &[]);
+    assert_open(&rt, rt.alloc(), &schema, 3, OPEN_LIST, &[], &[]);
     assert_open(&rt, rt.alloc(), &schema, 0, &[1, 1, 0, 5, 0], &[], &[5, 0]);
 }
 
