@@ -3,6 +3,7 @@ use Rattle.std.proofs.Common.{◌≡◌, inl, inr, ℕ, pos, List, [], ◌∷◌
 use Rattle.rasn_types.specs.declared.types.codec.Codec.TheVariants.{Der}
 use Rattle.rasn_types.specs.declared.types.codec.Codec.{Codec}
 use Rattle.rasn_types.specs.Framing.{definite}
+use Rattle.rasn_types.specs.Tags.{der_form}
 use Rattle.rasn_types.specs.Grammar.{Reads, parts_of, top}
 use Rattle.rasn_types.specs.Shapes.{Tree, number, boolean}
 use Rattle.rasn_types.proofs.Headers.Frames.{frame_one}
@@ -50,8 +51,8 @@ true_by_der = ((false, 255 ∷ [], short 1 false (255 ∷ []) (0 ∷ []) (omega 
 -- The octets after the contents are those after the value.
 alone : (t : Tree) → Reads Der (plain boolean 1) 128 false followed_true t [] → ⊥
 unfolding Reads parts_of
-alone t ((bit, contents, frame, rest), w) =
-    let e : ◌≡◌ {A = List ℕ} (0 ∷ []) [] = (frame_one _ (short 1 false (255 ∷ []) (0 ∷ []) (omega arith) (omega arith) (omega arith)) frame).rest in
+alone t ((bit, contents, frame, value, by), w) =
+    let e : ◌≡◌ {A = List ℕ} (0 ∷ []) [] = (frame_one {rule = der_form} _ (short 1 false (255 ∷ []) (0 ∷ []) (omega arith) (omega arith) (omega arith)) frame).rest in
     cc
 
 not_alone : (names : Vec NamedNumber Global) → IsDer (a_boolean names) 0 followed_true → ⊥

@@ -132,7 +132,7 @@ impl<'text> Catalog<'text> {
         ensures { IfSome result (IsIndexOf candidates self.now.known.items) }
     {
         for (index, known) in self.known.iter().enumerate() {
-            if known.candidates == candidates {
+            if known.candidates.is(candidates) {
                 return Some(index);
             }
         }

@@ -30,6 +30,22 @@ pub(crate) enum Candidates {
 }
 
 impl Candidates {
+    ghost use Rattle.std.specs.Prelude.{◌≡◌, true};
+
+    /// Returns whether both are the same.
+    pub(crate) fn is(self, other: Candidates) -> bool
+        ensures { result ≡ true → self ≡ other }
+    {
+        match (self, other) {
+            (Candidates::Labelled(one), Candidates::Labelled(two)) => one == two,
+            (Candidates::Named, Candidates::Named)
+            | (Candidates::First, Candidates::First)
+            | (Candidates::Tried, Candidates::Tried)
+            | (Candidates::Nothing, Candidates::Nothing) => true,
+            _ => false,
+        }
+    }
+
     /// Returns whether the type of the message of a standard with this index is one of them.
     pub(crate) fn have(self, index: usize, is_tried: bool) -> bool {
         match self {

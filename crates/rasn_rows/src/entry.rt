@@ -1,7 +1,7 @@
 //! The entry points of the rules, and those that take the rules.
 
 use crate::octets::text_of;
-use crate::reading::told;
+use crate::reading::{refused, shown, told};
 use crate::row::Row;
 use crate::writing::written;
 use rasn::de::Decode;
@@ -71,7 +71,7 @@ pub fn normal<T: Decode + Encode + LawfulEq>(
     match normalise::<T>(alloc, row.rules, &row.octets) {
         Ok(octets) => {
             let octets = text_of(alloc, &octets)?;
-            format!(in alloc; "= {octets}")
+            shown(alloc, &octets)
         }
         Err(error) => format!(in alloc; "! {error:?}"),
     }
@@ -83,7 +83,7 @@ pub fn canonical<T: Decode + Encode + LawfulEq>(
     row: &Row<'_>,
 ) -> Result<String, AllocError> {
     let answer = der::is_canonical::<T>(alloc, &row.octets)?;
-    format!(in alloc; "= {answer}")
+    shown(alloc, &answer)
 }
 
 /// Returns the result of reading a value out of an open type with the octets.
@@ -100,6 +100,6 @@ pub fn held<T: Decode + Encode>(alloc: Global, row: &Row<'_>) -> Result<String, 
             let answer = encode_any(alloc, row.rules, &value).map(|any| any.into_vec());
             written(alloc, &answer)
         }
-        Err(error) => format!(in alloc; "! {:?} {:?}", error.codec, error.kind),
+        Err(error) => refused(alloc, error.codec, &error.kind),
     }
 }

@@ -2,24 +2,25 @@
 
 use crate::calls::{call, check, written_real};
 use crate::cut::{cut, open};
-use crate::entry::{all, begin, canonical, front, held, inside, normal, whole};
+use crate::entry::{all, begin, canonical, decoded, front, held, inside, normal, whole};
 use crate::lists::SixtyFour;
-use crate::reading::{counted, decoder_of, read, read_within, tell_within};
+use crate::messages::of_message;
+use crate::reading::{counted, decoder_of, read, read_within, refused, tell_within};
 use crate::row::{Row, Verb};
 use crate::sorted::sorted;
 use crate::texts::{parse, text};
 use crate::types::{
     Amended, Counted, Eight, Graded, Lamp, Levelled, Padding, Profile, Renewed, Reply,
 };
-use crate::values::{copied, number, ordered, same, shown};
+use crate::values::{copied, number, ordered, same, value_text};
 use crate::writing::{write, write_value, write_within, written};
 use rasn::de::Decode;
 use rasn::enc::Encode;
 use rasn::types::{
-    Any, BitString, BmpString, Bound, Bounded, Constraints, ContextTag, Date, Explicit, Extensible,
-    FixedOctetString, GeneralString, GeneralizedTime, GraphicString, Ia5String, Implicit, Integer,
-    LawfulEq, NamedBits, NumericString, ObjectIdentifier, OctetString, PrintableString, SetOf,
-    TeletexString, UtcTime, Utf8String, VisibleString,
+    Any, BitString, BmpString, Bound, Bounded, Constraints, ContextTag, Date, Enumerated, Explicit,
+    Extensible, FixedOctetString, GeneralString, GeneralizedTime, GraphicString, Ia5String,
+    Implicit, Integer, LawfulEq, NamedBits, NumericString, ObjectIdentifier, OctetString,
+    PrintableString, SetOf, TeletexString, UtcTime, Utf8String, VisibleString,
 };
 use rasn_bench::{
     AlgorithmIdentifier, AttributeTypeAndValue, Both, Colour, Event, Grouped, NamedFlag, Pair,
@@ -29,7 +30,10 @@ use std::alloc::{AllocError, Global};
 use std::fmt::Debug;
 
 /// Returns the result of a row whose type is read and written.
-fn both<T: Decode + Encode + Debug>(alloc: Global, row: &Row<'_>) -> Result<String, AllocError> {
+pub fn both<T: Decode + Encode + Debug>(
+    alloc: Global,
+    row: &Row<'_>,
+) -> Result<String, AllocError> {
     match row.verb {
         Verb::Write(rules) => write::<T>(alloc, row, rules),
         _ => one::<T>(alloc, row),
@@ -67,7 +71,19 @@ fn bound<T: Decode + Encode + Debug>(
     }
 }
 
-fn unknown(alloc: Global) -> Result<String, AllocError> {
+/// Returns the name of the number that is read, and the number that the name has.
+pub fn named<E: Enumerated + Debug>(alloc: Global, row: &Row<'_>) -> Result<String, AllocError> {
+    match decoded::<Extensible<E>>(alloc, row.rules, &row.octets) {
+        Ok(value) => match value.named() {
+            Some(name) => format!(in alloc; "= {name:?}, {}", name.discriminant()),
+            None => String::from_str(alloc, "= no name"),
+        },
+        Err(error) => refused(alloc, error.codec, &error.kind),
+    }
+}
+
+/// Returns that a row is of no known type, or has a verb that the type hasn't.
+pub fn unknown(alloc: Global) -> Result<String, AllocError> {
     String::from_str(
         alloc,
         "is of no type that is known, or has a verb that the type hasn't",
@@ -126,15 +142,15 @@ fn of_lawful(alloc: Global, row: &Row<'_>) -> Result<String, AllocError> {
 /// Returns the text of a value.
 fn of_shown(alloc: Global, row: &Row<'_>) -> Result<String, AllocError> {
     match row.name {
-        "integer" => shown::<Integer>(alloc, row),
-        "oid" => shown::<ObjectIdentifier>(alloc, row),
-        "bits" => shown::<BitString>(alloc, row),
-        "octets" => shown::<OctetString>(alloc, row),
-        "any" => shown::<Any>(alloc, row),
-        "visible" => shown::<VisibleString>(alloc, row),
-        "utctime" => shown::<UtcTime>(alloc, row),
-        "gentime" => shown::<GeneralizedTime>(alloc, row),
-        "date" => shown::<Date>(alloc, row),
+        "integer" => value_text::<Integer>(alloc, row),
+        "oid" => value_text::<ObjectIdentifier>(alloc, row),
+        "bits" => value_text::<BitString>(alloc, row),
+        "octets" => value_text::<OctetString>(alloc, row),
+        "any" => value_text::<Any>(alloc, row),
+        "visible" => value_text::<VisibleString>(alloc, row),
+        "utctime" => value_text::<UtcTime>(alloc, row),
+        "gentime" => value_text::<GeneralizedTime>(alloc, row),
+        "date" => value_text::<Date>(alloc, row),
         _ => unknown(alloc),
     }
 }
@@ -383,7 +399,15 @@ fn of_value(alloc: Global, row: &Row<'_>) -> Result<String, AllocError> {
         "unmarked" => write_unmarked(alloc, row),
         "real" => write_real(alloc, row),
         "sorted" | "sorted(option)" => or_unknown(alloc, sorted(alloc, row)?),
-        _ => or_unknown(alloc, call(alloc, row)?),
+        _ => of_call(alloc, row),
+    }
+}
+
+/// Returns the result of a row of a call of a decoder, or of a message.
+fn of_call(alloc: Global, row: &Row<'_>) -> Result<String, AllocError> {
+    match call(alloc, row)? {
+        Some(text) => Ok(text),
+        None => of_message(alloc, row),
     }
 }
 

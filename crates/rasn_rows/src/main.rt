@@ -1,11 +1,13 @@
 //! Reads and writes the values of the rows of standard input, and prints each row with its result.
 #![tactic(auto)]
 
+mod address_book;
 mod calls;
 mod cut;
 mod entry;
 mod kinds;
 mod lists;
+mod messages;
 mod octets;
 mod reading;
 mod row;

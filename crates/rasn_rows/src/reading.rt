@@ -4,9 +4,24 @@ use crate::row::Row;
 use rasn::ber::de::{Decoder, DecoderOptions};
 use rasn::de::Decode;
 use rasn::error::DecodeError;
-use rasn::types::Constraints;
+use rasn::types::{Codec, Constraints};
 use std::alloc::{AllocError, Global};
-use std::fmt::Debug;
+use std::fmt::{Debug, Display};
+
+/// Returns the text of a value.
+pub fn shown<T: Display>(alloc: Global, value: &T) -> Result<String, AllocError> {
+    format!(in alloc; "= {value}")
+}
+
+/// Returns the text of an error.
+pub fn failed<E: Display>(alloc: Global, error: &E) -> Result<String, AllocError> {
+    format!(in alloc; "! {error}")
+}
+
+/// Returns the rules and the kind of an error.
+pub fn refused<K: Debug>(alloc: Global, rules: Codec, kind: &K) -> Result<String, AllocError> {
+    format!(in alloc; "! {rules:?} {kind:?}")
+}
 
 /// Returns the text of a value, or of the error's rules and kind.
 pub fn told<T: Debug>(
@@ -15,7 +30,7 @@ pub fn told<T: Debug>(
 ) -> Result<String, AllocError> {
     match answer {
         Ok(value) => format!(in alloc; "= {value:?}"),
-        Err(error) => format!(in alloc; "! {:?} {:?}", error.codec, error.kind),
+        Err(error) => refused(alloc, error.codec, &error.kind),
     }
 }
 
@@ -60,6 +75,6 @@ pub fn tell_within<T: Decode>(
 ) -> Result<String, AllocError> {
     match T::decode_with_constraints(&mut decoder_of(alloc, row), constraints) {
         Ok(_) => String::from_str(alloc, "= a value"),
-        Err(error) => format!(in alloc; "! {error}"),
+        Err(error) => failed(alloc, &error),
     }
 }

@@ -47,43 +47,52 @@ pub enum Verb {
     Parse,
     /// Reads a time, and shows its text in the canonical form.
     Text,
+    /// Reads the message that the octets begin with, by the rules of its standard.
+    Message,
+    /// Reads a message, and tells whether the same octets are written.
+    Back,
+    /// Reads a message, and tells whether DER reads the same from what is written.
+    Again,
 }
+
+/// The verbs, by their names.
+const VERBS: &[(&str, Verb)] = &[
+    ("read", Verb::Read),
+    ("whole", Verb::Whole),
+    ("begin", Verb::Begin),
+    ("all", Verb::All),
+    ("front", Verb::Front),
+    ("tell", Verb::Tell),
+    ("cut", Verb::Cut),
+    ("open", Verb::Open),
+    ("write-ber", Verb::Write(Codec::Ber)),
+    ("write-cer", Verb::Write(Codec::Cer)),
+    ("write-der", Verb::Write(Codec::Der)),
+    ("normal", Verb::Normal),
+    ("canonical", Verb::Canonical),
+    ("inside", Verb::Inside),
+    ("held", Verb::Held),
+    ("show", Verb::Show),
+    ("copy", Verb::Copy),
+    ("order", Verb::Order),
+    ("same", Verb::Same),
+    ("check", Verb::Check),
+    ("parse", Verb::Parse),
+    ("text", Verb::Text),
+    ("message", Verb::Message),
+    ("back", Verb::Back),
+    ("again", Verb::Again),
+];
 
 impl Verb {
     /// Returns the verb of this name.
     fn of_name(name: &str) -> Option<Verb> {
-        match name {
-            "read" => Some(Verb::Read),
-            "whole" => Some(Verb::Whole),
-            "begin" => Some(Verb::Begin),
-            "all" => Some(Verb::All),
-            "front" => Some(Verb::Front),
-            "tell" => Some(Verb::Tell),
-            "cut" => Some(Verb::Cut),
-            "open" => Some(Verb::Open),
-            "write-ber" => Some(Verb::Write(Codec::Ber)),
-            "write-cer" => Some(Verb::Write(Codec::Cer)),
-            "write-der" => Some(Verb::Write(Codec::Der)),
-            _ => Verb::of_value_name(name),
+        for (known, verb) in VERBS {
+            if *known == name {
+                return Some(*verb);
+            }
         }
-    }
-
-    /// Returns the verb of this name that is about values or texts.
-    fn of_value_name(name: &str) -> Option<Verb> {
-        match name {
-            "normal" => Some(Verb::Normal),
-            "canonical" => Some(Verb::Canonical),
-            "inside" => Some(Verb::Inside),
-            "held" => Some(Verb::Held),
-            "show" => Some(Verb::Show),
-            "copy" => Some(Verb::Copy),
-            "order" => Some(Verb::Order),
-            "same" => Some(Verb::Same),
-            "check" => Some(Verb::Check),
-            "parse" => Some(Verb::Parse),
-            "text" => Some(Verb::Text),
-            _ => None,
-        }
+        None
     }
 }
 

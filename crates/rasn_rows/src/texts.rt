@@ -1,6 +1,8 @@
 //! Texts of times (X.680 46, 47; X.690 11.7, 11.8) and of object identifiers, parsed and written.
 
 use crate::entry::decoded;
+use crate::messages::{snmp_number, unbind};
+use crate::reading::{failed, shown};
 use crate::row::Row;
 use rasn::ber::de::Decoder;
 use rasn::ber::enc::Encoder;
@@ -18,7 +20,7 @@ use std::fmt::Display;
 /// Returns the text of a value, if there is one.
 fn found<T: Display + Drop>(alloc: Global, value: Option<T>) -> Result<String, AllocError> {
     match value {
-        Some(value) => format!(in alloc; "= {value}"),
+        Some(value) => shown(alloc, &value),
         None => String::from_str(alloc, "= none"),
     }
 }
@@ -29,8 +31,8 @@ fn answered<T: Display + Drop>(
     answer: Result<T, DecodeError>,
 ) -> Result<String, AllocError> {
     match answer {
-        Ok(value) => format!(in alloc; "= {value}"),
-        Err(error) => format!(in alloc; "! {error}"),
+        Ok(value) => shown(alloc, &value),
+        Err(error) => failed(alloc, &error),
     }
 }
 
@@ -75,6 +77,8 @@ fn parse_string(alloc: Global, row: &Row<'_>) -> Result<Option<String>, AllocErr
             .map(Some)
         }
         "date_string" => answered(alloc, Decoder::parse_date_string(alloc, &text)).map(Some),
+        "snmp-number" => snmp_number(alloc, row.text),
+        "ldap-unbind" => unbind(alloc, row.text),
         _ => Ok(None),
     }
 }
@@ -88,10 +92,10 @@ fn agreed(
     match answer {
         Ok(text) if text.as_slice() == octets => {
             let text = str::from_utf8(octets).unwrap_or("no text");
-            format!(in alloc; "= {text}")
+            shown(alloc, &text)
         }
         Ok(_) => String::from_str(alloc, "! two texts"),
-        Err(error) => format!(in alloc; "! {error}"),
+        Err(error) => failed(alloc, error),
     }
 }
 
@@ -132,7 +136,7 @@ impl Timed for Date {
 fn read_text<T: Timed>(alloc: Global, row: &Row<'_>) -> Result<Option<String>, AllocError> {
     match decoded::<T>(alloc, row.rules, &row.octets) {
         Ok(time) => time.text(alloc).map(Some),
-        Err(error) => format!(in alloc; "! {error}").map(Some),
+        Err(error) => failed(alloc, &error).map(Some),
     }
 }
 

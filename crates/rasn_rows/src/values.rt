@@ -1,7 +1,7 @@
 //! Values as text, copied and compared.
 
 use crate::entry::decoded;
-use crate::reading::decoder_of;
+use crate::reading::{decoder_of, failed, shown};
 use crate::row::Row;
 use rasn::de::Decode;
 use rasn::types::{Integer, TryClone};
@@ -10,10 +10,10 @@ use std::cmp::Ordering;
 use std::fmt::Display;
 
 /// Returns the text of the value that is read.
-pub fn shown<T: Decode + Display>(alloc: Global, row: &Row<'_>) -> Result<String, AllocError> {
+pub fn value_text<T: Decode + Display>(alloc: Global, row: &Row<'_>) -> Result<String, AllocError> {
     match decoded::<T>(alloc, row.rules, &row.octets) {
-        Ok(value) => format!(in alloc; "= {value}"),
-        Err(error) => format!(in alloc; "! {error}"),
+        Ok(value) => shown(alloc, &value),
+        Err(error) => failed(alloc, &error),
     }
 }
 
@@ -25,9 +25,9 @@ pub fn copied<T: Decode + TryClone + PartialEq>(
     match decoded::<T>(alloc, row.rules, &row.octets) {
         Ok(value) => {
             let is_equal = value.try_clone(alloc)? == value;
-            format!(in alloc; "= {is_equal}")
+            shown(alloc, &is_equal)
         }
-        Err(error) => format!(in alloc; "! {error}"),
+        Err(error) => failed(alloc, &error),
     }
 }
 
@@ -129,6 +129,6 @@ fn number_text(alloc: Global, number: &Integer) -> Result<String, AllocError> {
 pub fn number(alloc: Global, row: &Row<'_>) -> Result<String, AllocError> {
     match decoded::<Integer>(alloc, row.rules, &row.octets) {
         Ok(number) => number_text(alloc, &number),
-        Err(error) => format!(in alloc; "! {error}"),
+        Err(error) => failed(alloc, &error),
     }
 }

@@ -2,6 +2,7 @@
 
 use crate::entry::decoded;
 use crate::octets::text_of;
+use crate::reading::{refused, shown};
 use crate::row::Row;
 use rasn::ber::enc::{Encoder, EncoderOptions};
 use rasn::de::Decode;
@@ -16,9 +17,9 @@ pub fn written(alloc: Global, answer: &Result<Vec<u8>, EncodeError>) -> Result<S
     match answer {
         Ok(octets) => {
             let octets = text_of(alloc, octets)?;
-            format!(in alloc; "= {octets}")
+            shown(alloc, &octets)
         }
-        Err(error) => format!(in alloc; "! {:?} {:?}", error.codec, error.kind),
+        Err(error) => refused(alloc, error.codec, &error.kind),
     }
 }
 
@@ -30,7 +31,7 @@ pub fn write<T: Decode + Encode>(
 ) -> Result<String, AllocError> {
     match decoded::<T>(alloc, row.rules, &row.octets) {
         Ok(value) => write_value(alloc, rules, &value),
-        Err(error) => format!(in alloc; "! {:?} {:?}", error.codec, error.kind),
+        Err(error) => refused(alloc, error.codec, &error.kind),
     }
 }
 
@@ -91,6 +92,6 @@ pub fn write_within<T: Decode + Encode>(
             let answer = encoded_within(alloc, rules, constraints, &value);
             written(alloc, &answer)
         }
-        Err(error) => format!(in alloc; "! {:?} {:?}", error.codec, error.kind),
+        Err(error) => refused(alloc, error.codec, &error.kind),
     }
 }

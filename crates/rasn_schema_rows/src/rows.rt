@@ -8,11 +8,14 @@ use crate::types::{print_types, print_warnings};
 use rasn_compiler::Modules;
 use std::io::{self, BufRead, BufReader, BufWriter, Write};
 
-/// Prints the lines of standard input, each row with its result.
+/// Prints the faults of the modules, and the lines of standard input, each row with its result.
 pub fn print_rows(rt: &HostRuntime, read: &Modules<'_>) -> io::Result<()> {
     let alloc = rt.alloc();
     let input = BufReader::new(alloc, rt.stdin())?;
     let mut output = BufWriter::new(alloc, rt.stdout())?;
+    for fault in &read.faults {
+        writeln!(output, "fault\t{fault}")?;
+    }
     for line in input.lines(alloc) {
         let line = line?;
         print_row(rt, read, &line, &mut output)?;

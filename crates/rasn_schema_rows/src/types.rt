@@ -2,7 +2,7 @@
 
 use crate::modules::is_plain_type;
 use crate::show::shown;
-use rasn_compiler::{Module, Modules, Source};
+use rasn_compiler::{Module, Modules, Resolved, Source};
 use std::alloc::Global;
 use std::fs;
 use std::io::{self, Write};
@@ -49,18 +49,36 @@ fn print_module<'text, W: Write>(
     for assignment in &module.assignments {
         let name = assignment.name;
         if is_plain_type(assignment) && !read.is_class(module.name, name) {
-            match read.schema(alloc, module.name, name) {
-                Ok(resolved) if module.name == "Shown" => {
-                    let notation = resolved.notation(alloc)?;
-                    write!(output, "{notation}")?;
-                }
-                Ok(resolved) => {
-                    let shown = shown(alloc, &resolved)?;
-                    writeln!(output, "{name}: {shown}")?;
-                }
-                Err(stop) => writeln!(output, "{name}: {stop}")?,
-            }
+            print_type(alloc, read, (module.name, name), output)?;
         }
     }
     Ok(())
+}
+
+/// Prints a type, or why it has no schema.
+fn print_type<W: Write>(
+    alloc: Global,
+    read: &Modules<'_>,
+    (module, name): (&str, &str),
+    output: &mut W,
+) -> io::Result<()> {
+    match read.schema(alloc, module, name) {
+        Ok(resolved) => print_schema(alloc, &resolved, (module, name), output),
+        Err(stop) => writeln!(output, "{name}: {stop}"),
+    }
+}
+
+/// Prints a type that has a schema.
+fn print_schema<W: Write>(
+    alloc: Global,
+    resolved: &Resolved,
+    (module, name): (&str, &str),
+    output: &mut W,
+) -> io::Result<()> {
+    if module == "Shown" {
+        let notation = resolved.notation(alloc)?;
+        return write!(output, "{notation}");
+    }
+    let shown = shown(alloc, resolved)?;
+    writeln!(output, "{name}: {shown}")
 }

@@ -2,11 +2,11 @@
 
 use rasn::error::{DecodeError, EncodeError};
 use rasn::parts::{Optional, Put, PutOptional, Required};
-use rasn::types::{AsnType, Constraints, ContextTag, Identifier, Implicit, LawfulEq, Tag, Unknown};
+use rasn::types::{AsnType, Constraints, ContextTag, Identifier, Implicit, Tag, Unknown};
 use rasn::{Decode, Decoder, Encode, Encoder};
 
 /// SET { mark [0] IMPLICIT INTEGER (0..255) OPTIONAL, passed BOOLEAN, ... }
-#[derive(Debug, PartialEq, Eq, Drop)]
+#[derive(Debug, Drop)]
 pub struct Amended {
     pub mark: Option<Implicit<ContextTag<0>, u8>>,
     pub passed: bool,
@@ -34,12 +34,6 @@ impl AsnType for Amended {
     ghost tree = { λ g. items (option_tree (λ m. number (pos m)) g.mark ∷ bool_tree g.passed ∷ list_tree numbers g.unknown.values.items ∷ []) };
 
     ghost own = { refl };
-}
-
-impl LawfulEq for Amended {
-    ghost use Rattle.rasn_types.specs.Deciding.{deciding};
-
-    ghost decides = { Prim.search deciding depth 64 };
 }
 
 impl Decode for Amended {

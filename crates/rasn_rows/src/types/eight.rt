@@ -3,8 +3,8 @@
 use rasn::error::{DecodeError, EncodeError};
 use rasn::parts::{DefaultValue, Defaulted, End, Optional, Put, PutDefault, PutOptional, Required};
 use rasn::types::{
-    Any, AsnType, Constraints, ContextTag, Explicit, Identifier, Implicit, LawfulEq,
-    ObjectIdentifier, OctetString, Tag,
+    Any, AsnType, Constraints, ContextTag, Explicit, Identifier, Implicit, ObjectIdentifier,
+    OctetString, Tag,
 };
 use rasn::{Decode, Decoder, Encode, Encoder};
 use rasn_bench::{AlgorithmIdentifier, Seven};
@@ -13,7 +13,7 @@ use std::alloc::{AllocError, Global};
 /// SEQUENCE { version [0] EXPLICIT INTEGER (0..255) DEFAULT 0, serial OCTET STRING, algorithm
 /// AlgorithmIdentifier, truth BOOLEAN, name OBJECT IDENTIFIER OPTIONAL, mark [0] IMPLICIT INTEGER
 /// (0..255) OPTIONAL, level INTEGER (0..255) DEFAULT 7, more ANY OPTIONAL }
-#[derive(Debug, PartialEq, Eq, Drop)]
+#[derive(Debug, Drop)]
 pub struct Eight {
     pub version: Explicit<ContextTag<0>, u8>,
     pub serial: OctetString,
@@ -56,12 +56,6 @@ impl AsnType for Eight {
         ∷ option_tree (λ m. number (pos m)) e.mark ∷ number (pos e.level) ∷ option_tree numbers e.more ∷ []) };
 
     ghost own = { refl };
-}
-
-impl LawfulEq for Eight {
-    ghost use Rattle.rasn_types.specs.Deciding.{deciding};
-
-    ghost decides = { Prim.search deciding depth 64 };
 }
 
 /// The default version.

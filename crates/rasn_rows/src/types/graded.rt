@@ -2,11 +2,11 @@
 
 use rasn::error::{DecodeError, EncodeError};
 use rasn::parts::{Addition, End, Put, PutAddition, Required};
-use rasn::types::{AsnType, Constraints, ContextTag, Explicit, Identifier, LawfulEq, Tag};
+use rasn::types::{AsnType, Constraints, ContextTag, Explicit, Identifier, Tag};
 use rasn::{Decode, Decoder, Encode, Encoder};
 
 /// SEQUENCE { passed BOOLEAN, ..., mark [0] EXPLICIT INTEGER (0..255) }
-#[derive(Debug, PartialEq, Eq, Drop)]
+#[derive(Debug, Drop)]
 pub struct Graded {
     pub passed: bool,
     pub mark: Option<Explicit<ContextTag<0>, u8>>,
@@ -33,12 +33,6 @@ impl AsnType for Graded {
     ghost tree = { λ g. items (bool_tree g.passed ∷ option_tree (λ m. number (pos m)) g.mark ∷ []) };
 
     ghost own = { refl };
-}
-
-impl LawfulEq for Graded {
-    ghost use Rattle.rasn_types.specs.Deciding.{deciding};
-
-    ghost decides = { Prim.search deciding depth 64 };
 }
 
 impl Decode for Graded {

@@ -113,7 +113,7 @@ impl DefaultValue for Off {
 }
 
 /// SEQUENCE { level Level DEFAULT off : NULL, lit BOOLEAN, dimmed Level OPTIONAL }
-#[derive(Debug, PartialEq, Eq, Drop)]
+#[derive(Debug, Drop)]
 pub struct Lamp {
     pub level: Level,
     pub lit: bool,

@@ -2,13 +2,11 @@
 
 use rasn::error::{DecodeError, EncodeError};
 use rasn::parts::{End, Optional, PutOptional};
-use rasn::types::{
-    AsnType, Constraints, ContextTag, Identifier, Implicit, LawfulEq, Tag, Utf8String,
-};
+use rasn::types::{AsnType, Constraints, ContextTag, Identifier, Implicit, Tag, Utf8String};
 use rasn::{Decode, Decoder, Encode, Encoder};
 
 /// SEQUENCE { name [0] IMPLICIT UTF8String OPTIONAL, age INTEGER (0..255) OPTIONAL }
-#[derive(Debug, PartialEq, Eq, Drop)]
+#[derive(Debug, Drop)]
 pub struct Profile {
     pub name: Option<Implicit<ContextTag<0>, Utf8String>>,
     pub age: Option<u8>,
@@ -36,12 +34,6 @@ impl AsnType for Profile {
     ghost tree = { λ p. items (option_tree (λ s. numbers (chars (string_bytes s))) p.name ∷ option_tree (λ n. number (pos n)) p.age ∷ []) };
 
     ghost own = { refl };
-}
-
-impl LawfulEq for Profile {
-    ghost use Rattle.rasn_types.specs.Deciding.{deciding};
-
-    ghost decides = { Prim.search deciding depth 64 };
 }
 
 impl Decode for Profile {

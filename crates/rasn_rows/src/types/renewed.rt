@@ -2,11 +2,11 @@
 
 use rasn::error::{DecodeError, EncodeError};
 use rasn::parts::{End, Optional, Put, PutOptional, Required};
-use rasn::types::{AsnType, Constraints, ContextTag, Identifier, Implicit, LawfulEq, Tag, Unknown};
+use rasn::types::{AsnType, Constraints, ContextTag, Identifier, Implicit, Tag, Unknown};
 use rasn::{Decode, Decoder, Encode, Encoder};
 
 /// SEQUENCE { passed BOOLEAN, mark [0] IMPLICIT INTEGER (0..255) OPTIONAL, ... }
-#[derive(Debug, PartialEq, Eq, Drop)]
+#[derive(Debug, Drop)]
 pub struct Renewed {
     pub passed: bool,
     pub mark: Option<Implicit<ContextTag<0>, u8>>,
@@ -34,12 +34,6 @@ impl AsnType for Renewed {
     ghost tree = { λ g. items (bool_tree g.passed ∷ option_tree (λ m. number (pos m)) g.mark ∷ list_tree numbers g.unknown.values.items ∷ []) };
 
     ghost own = { refl };
-}
-
-impl LawfulEq for Renewed {
-    ghost use Rattle.rasn_types.specs.Deciding.{deciding};
-
-    ghost decides = { Prim.search deciding depth 64 };
 }
 
 impl Decode for Renewed {

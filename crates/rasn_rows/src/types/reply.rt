@@ -2,11 +2,11 @@
 
 use rasn::error::{DecodeError, EncodeError};
 use rasn::parts::OneOf;
-use rasn::types::{Any, AsnType, Constraints, ContextTag, Identifier, Implicit, LawfulEq, Tag};
+use rasn::types::{Any, AsnType, Constraints, ContextTag, Identifier, Implicit, Tag};
 use rasn::{Decode, Decoder, Encode, Encoder};
 
 /// CHOICE { accepted BOOLEAN, count [0] IMPLICIT INTEGER (0..255), ... }
-#[derive(Debug, PartialEq, Eq, Drop)]
+#[derive(Debug, Drop)]
 pub enum Reply {
     Accepted(bool),
     Count(Implicit<ContextTag<0>, u8>),
@@ -32,14 +32,6 @@ impl AsnType for Reply {
     ghost tree = { reply_tree };
 
     ghost own = { refl };
-}
-
-impl LawfulEq for Reply {
-    ghost use Rattle.rasn_types.specs.Equality.{choice_decided, alternative, bool_decided, unsigned_decided, octets_decided};
-    ghost use Rattle.rasn_rows.specs.contracts.types.reply.Reply.{enum as reply_enum};
-    ghost use Rattle.rasn_rows.specs.Replies.{reply_tree};
-
-    ghost decides = { choice_decided reply_enum _ reply_tree (alternative (λ x. x.0) bool_decided, (alternative (λ x. x.0) unsigned_decided, (alternative (λ x. x.0) octets_decided, tt))) };
 }
 
 /// The alternatives, as they are read.

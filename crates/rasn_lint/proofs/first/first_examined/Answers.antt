@@ -1,6 +1,6 @@
 use Rattle.std.proofs.Common.{[], length, subst}
 use Rattle.rasn_lint.specs.Lint.{IsFirstOr}
-use Rattle.rasn_lint.proofs.Clean.{open_first, refused_first, remainder_first}
+use Rattle.rasn_lint.proofs.Clean.{open_first}
 use Rattle.rasn_lint.proofs.first.first_examined.Goals as goal
 
 pub returns : goal.returns
