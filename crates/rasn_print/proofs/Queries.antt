@@ -118,3 +118,15 @@ asked view holder part path steps slice are e within s leads present = record {
       (subst (λ l. LeadTo holder.schema.now.types.items l holder.type_id.0 holder.value.now part.type_id.0 part.value.now) e leads);
   present = present;
 }
+
+-- A part of the value was appended to the views.
+pub part_more : (view part x : View) (old list new : List View)
+    → (IsAmong list x → IsAmong old x ⊎ ((x.schema.now ≡ view.schema.now) × Holds view.schema.now.types.items view.type_id.0 view.value.now x.type_id x.value.now))
+    → (IsAmong new x → IsAmong list x ⊎ (x ≡ part)) → part.schema.now ≡ view.schema.now
+    → Holds view.schema.now.types.items view.type_id.0 view.value.now part.type_id part.value.now → IsAmong new x
+    → IsAmong old x ⊎ ((x.schema.now ≡ view.schema.now) × Holds view.schema.now.types.items view.type_id.0 view.value.now x.type_id x.value.now)
+part_more view part x old list new before added s h a = go (added a)
+  where
+    go : IsAmong list x ⊎ (x ≡ part) → IsAmong old x ⊎ ((x.schema.now ≡ view.schema.now) × Holds view.schema.now.types.items view.type_id.0 view.value.now x.type_id x.value.now)
+    go (inl m) = before m
+    go (inr e) = inr (subst (λ z. (z.schema.now ≡ view.schema.now) × Holds view.schema.now.types.items view.type_id.0 view.value.now z.type_id z.value.now) (sym e) (s, h))
