@@ -1,6 +1,7 @@
 -- Parts that are asked for by their paths.
-use Rattle.std.proofs.Common.{◌≡◌, ◌≢◌, ◌⊎◌, ◌<◌, ◌+◌, inl, inr, ℕ, zero, suc, List, [], ◌∷◌, ◌++◌, Some, length, refl, sym, ap, ◌∙◌, subst, take}
+use Rattle.std.proofs.Common.{◌≡◌, ◌≢◌, ◌⊎◌, ◌<◌, ◌+◌, inl, inr, ℕ, zero, suc, List, [], ◌∷◌, ◌++◌, Some, length, refl, sym, ap, ◌∙◌, subst, take, get_or}
 use Rattle.std.specs.Prelude.{slice_get}
+use Rattle.std.proofs.lemmas.List.{take_more}
 use Rattle.rasn_dynamic.specs.PathText.{AreStepsOf}
 use Rattle.rasn_dynamic.specs.declared.steps.Step.{Step}
 use Rattle.rasn_schema.specs.declared.type_id.TypeId.{TypeId}
@@ -25,6 +26,17 @@ leads_here types k v m w e f = (e, f)
 pub leads_nowhere : (types : List «Type») (k : ℕ) (v : Value) → LeadTo types [] k v k v
 unfolding LeadTo
 leads_nowhere types k v = (refl, refl)
+
+-- The step with this index, after those before it.
+pub step_on : (view part next : View) (steps : List Step) (i : ℕ) (d : Step) → i < length steps → part.schema.now ≡ view.schema.now
+    → LeadTo view.schema.now.types.items (take i steps) view.type_id.0 view.value.now part.type_id.0 part.value.now
+    → IsStepTo part.schema.now.types.items (get_or steps i d) part.type_id.0 part.value.now next.type_id next.value.now
+    → LeadTo view.schema.now.types.items (take (i + 1) steps) view.type_id.0 view.value.now next.type_id.0 next.value.now
+step_on view part next steps i d within s leads step =
+    let types = view.schema.now.types.items in
+    let here = subst (λ z. IsStepTo z.types.items (get_or steps i d) part.type_id.0 part.value.now next.type_id next.value.now) s step in
+    subst (λ l. LeadTo types l view.type_id.0 view.value.now next.type_id.0 next.value.now) (sym (take_more steps i d within))
+    (leads_on types (take i steps) (get_or steps i d) view.type_id.0 view.value.now part.type_id.0 part.value.now next.type_id next.value.now leads here)
 
 -- One more level.
 holds_on : (types : List «Type») (n k : ℕ) (v : Value) (m : ℕ) (w : Value) (id : TypeId) (part : Value)
@@ -106,3 +118,15 @@ asked view holder part path steps slice are e within s leads present = record {
       (subst (λ l. LeadTo holder.schema.now.types.items l holder.type_id.0 holder.value.now part.type_id.0 part.value.now) e leads);
   present = present;
 }
+
+-- A part of the value was appended to the views.
+pub part_more : (view part x : View) (old list new : List View)
+    → (IsAmong list x → IsAmong old x ⊎ ((x.schema.now ≡ view.schema.now) × Holds view.schema.now.types.items view.type_id.0 view.value.now x.type_id x.value.now))
+    → (IsAmong new x → IsAmong list x ⊎ (x ≡ part)) → part.schema.now ≡ view.schema.now
+    → Holds view.schema.now.types.items view.type_id.0 view.value.now part.type_id part.value.now → IsAmong new x
+    → IsAmong old x ⊎ ((x.schema.now ≡ view.schema.now) × Holds view.schema.now.types.items view.type_id.0 view.value.now x.type_id x.value.now)
+part_more view part x old list new before added s h a = go (added a)
+  where
+    go : IsAmong list x ⊎ (x ≡ part) → IsAmong old x ⊎ ((x.schema.now ≡ view.schema.now) × Holds view.schema.now.types.items view.type_id.0 view.value.now x.type_id x.value.now)
+    go (inl m) = before m
+    go (inr e) = inr (subst (λ z. (z.schema.now ≡ view.schema.now) × Holds view.schema.now.types.items view.type_id.0 view.value.now z.type_id z.value.now) (sym e) (s, h))

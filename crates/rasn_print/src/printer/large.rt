@@ -91,7 +91,7 @@ fn write<W: Write + Drop>(
             write_elements(lines, part, schema, *element, octets)
         }
         Some(ty @ (Type::Sequence { .. } | Type::Set { .. })) => {
-            write_components(lines, part, schema, ty, octets)
+            write_components(lines, part, &*schema, ty, octets)
         }
         Some(Type::Any { .. }) => write_open(lines, part, schema, id, octets),
         Some(
