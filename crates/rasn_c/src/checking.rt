@@ -5,7 +5,7 @@ ghost use Rattle.rasn_lint.specs.Shown.{indices_of};
 ghost use Rattle.rasn_c.specs.Status.{IsNumberOf};
 ghost use Rattle.rasn_c.specs.Checking.{AnswersCheckBy, IsCheckedBy, IsStopped, IsChecked, IsUncheckedBy, IsWhole, IsRefusedAt, IsUnreadBy, opens_of, status_of};
 
-use crate::reasons::{Reason, CallStop, report};
+use crate::reasons::{CallStop, Reason, report};
 use crate::schemas::{Query, query_of};
 use crate::status::Status;
 use rasn::refuse_remainder;

@@ -7,9 +7,9 @@ ghost use Rattle.rasn_c.specs.Reasons.{IsStatusOr};
 ghost use Rattle.rasn_c.specs.Compiling.{AnswersCompile, AreTexts, AreNoTexts, IsText, IsCompiled, IsNotCompiled, IsSchemaOf, IsNoSchema, IsNameOf};
 
 use crate::buffers::deliver;
-use crate::reasons::{NO_REASON, Reason, CallStop, report, stop_of, without_memory};
+use crate::reasons::{CallStop, NO_REASON, Reason, report, stop_of, without_memory};
 use crate::status::Status;
-use rasn_compiler::{Assigned, Fault, Module, Modules, Resolved, Source, CallStop as CompilerStop};
+use rasn_compiler::{Assigned, Fault, Module, Modules, Resolved, Source, Stop};
 use rasn_schema_octets::{WriteFault, write};
 use std::alloc::{AllocError, Global};
 use std::str;
@@ -74,8 +74,8 @@ fn schema_of(alloc: Global, read: &Modules<'_>, name: &str) -> Result<Vec<u8>, C
     };
     match read.schema(alloc, module, type_name) {
         Ok(resolved) => octets_of(alloc, &resolved),
-        Err(CompilerStop::OutOfMemory) => Err(CallStop::plain(alloc, Status::OutOfMemory)),
-        Err(CompilerStop::Fault(fault)) => Err(faults_stop(alloc, &fault, &[fault])),
+        Err(Stop::OutOfMemory) => Err(CallStop::plain(alloc, Status::OutOfMemory)),
+        Err(Stop::Fault(fault)) => Err(faults_stop(alloc, &fault, &[fault])),
     }
 }
 

@@ -7,7 +7,7 @@ ghost use Rattle.rasn_c.specs.Converting.{AnswersJson, AnswersEncode, AnswersNor
 
 use crate::buffers::deliver;
 use crate::checking::unread_stop;
-use crate::reasons::{NO_REASON, Reason, CallStop, path_length, report, stop_of, without_memory};
+use crate::reasons::{CallStop, NO_REASON, Reason, path_length, report, stop_of, without_memory};
 use crate::schemas::{Query, query_of};
 use crate::status::Status;
 use rasn::NormaliseError;

@@ -4,7 +4,7 @@ ghost use Rattle.rasn_c.specs.Status.{IsNumberOf};
 ghost use Rattle.rasn_c.specs.Finding.{AnswersFind, IsFound, IsNotFound, IsPathOf, IsNoPath, IsGiven};
 
 use crate::extent::{Extent, NO_EXTENT, extent_of};
-use crate::reasons::{Reason, CallStop, report, stop_of, without_memory};
+use crate::reasons::{CallStop, Reason, report, stop_of, without_memory};
 use crate::schemas::{Query, query_of};
 use crate::status::Status;
 use rasn_dynamic::{find_part, path_named, steps_of};
@@ -46,7 +46,13 @@ fn put_extent(made: Result<Extent, Status>, part: &mut Extent) -> Status
     }
 }
 
-fn find(alloc: Global, schema: &[u8], rule: u32, octets: &[u8], path: &[u8]) -> Result<Extent, CallStop>
+fn find(
+    alloc: Global,
+    schema: &[u8],
+    rule: u32,
+    octets: &[u8],
+    path: &[u8],
+) -> Result<Extent, CallStop>
     ensures { MatchResult result (IsFound schema.now rule octets.now path.now) (IsNotFound schema.now rule octets.now path.now) }
 {
     let asked = query_of(alloc, schema, rule)?;

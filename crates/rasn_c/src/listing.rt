@@ -6,7 +6,7 @@ ghost use Rattle.rasn_c.specs.declared.listing.ListedPart.{ListedPart};
 ghost use Rattle.rasn_c.specs.Listing.{AnswersParts, IsListing, IsNoListingBy, IsListedInto, IsPutListing, AreRows};
 
 use crate::extent::{Extent, extent_of};
-use crate::reasons::{Reason, CallStop, report, without_memory};
+use crate::reasons::{CallStop, Reason, report, without_memory};
 use crate::schemas::{Query, query_of};
 use crate::status::Status;
 use rasn_dynamic::{MessageParts, Part, parts_of};

@@ -2,7 +2,7 @@
 ghost use Rattle.std.specs.Prelude.{MatchResult};
 ghost use Rattle.rasn_c.specs.Schemas.{IsAsked, IsNotAsked, IsStatusOf};
 
-use crate::reasons::{NO_REASON, CallStop};
+use crate::reasons::{CallStop, NO_REASON};
 use crate::rules::rule_numbered;
 use crate::status::Status;
 use rasn::types::Codec;
