@@ -25,8 +25,8 @@ module _ (names : Vec NamedNumber Global) (bit : Bool) where
   no_step : (step : Step) (id : TypeId) (part : Value) → IsStepTo (a_boolean names) step 0 (Boolean bit) id part → ⊥
   unfolding IsInside
   no_step (Index index) id part (at, e) = cc
-  no_step (Name name) id part (ty, ((zero, e), named)) = cc
-  no_step (Name name) id part (ty, ((suc n, (tag, inner, e, more)), named)) = cc
+  no_step (Name name) id part (ty, (zero, e), named) = cc
+  no_step (Name name) id part (ty, (suc n, (tag, inner, e, more)), named) = cc
 
   only_itself : (n m : ℕ) (w : Value) → IsHeldIn (a_boolean names) n 0 (Boolean bit) m w → (0 ≡ m) × (Boolean bit ≡ w)
   unfolding IsHeldIn

@@ -300,8 +300,14 @@ impl<W: Write + Drop, E: Write + Drop> Session<'_, W, E> {
     fn write_departures(&mut self, name: &str, reasons: &[Reason]) -> Result<(), CallFault>
         ensures { self.new.is_refused ≡ true }
     {
-        let alloc = self.alloc;
+        let written = self.write_reasons(name, reasons);
         self.is_refused = true;
+        written
+    }
+
+    /// Writes a line for each of these reasons, and how many there are.
+    fn write_reasons(&mut self, name: &str, reasons: &[Reason]) -> Result<(), CallFault> {
+        let alloc = self.alloc;
         for reason in reasons {
             let line = line_of(alloc, name, &reason.to_line(alloc)?)?;
             self.write(line.as_bytes())?;
