@@ -1,3 +1,4 @@
+pub mod Catalogs
 pub mod PartOffsets
 pub mod Queries
 pub mod Verdicts
