@@ -265,6 +265,7 @@ fn known_of<'text>(
         open,
         octets,
         bits,
+        is_cut: call.work == Work::Show && !call.is_full,
     })
 }
 

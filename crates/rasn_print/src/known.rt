@@ -71,6 +71,8 @@ pub struct Known<'text> {
     pub(crate) open: Option<TypeId>,
     pub(crate) octets: Option<TypeId>,
     pub(crate) bits: Option<TypeId>,
+    /// Whether long octets are cut where they are shown.
+    pub(crate) is_cut: bool,
 }
 
 impl Known<'_> {

@@ -8,6 +8,7 @@ mod command_line;
 mod dump;
 mod example;
 mod fault;
+mod fingerprint;
 mod identifiers;
 mod input;
 mod known;
@@ -30,6 +31,7 @@ mod standards;
 mod texts;
 mod types;
 mod unused;
+mod values;
 mod work;
 
 pub use catalog::{Catalog, modules_of, warnings_of};
