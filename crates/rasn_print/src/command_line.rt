@@ -310,7 +310,7 @@ fn modules<'a>(alloc: Global) -> Arg<'a> {
         .long("module")
         .value_name("FILE")
         .action(ArgAction::Append)
-        .help("Reads modules of ASN.1 from this file, too; may be repeated")
+        .help("Reads modules of ASN.1 from this file or folder, too; may be repeated")
 }
 
 fn rules<'a>(alloc: Global, help: &'a str) -> Arg<'a> {

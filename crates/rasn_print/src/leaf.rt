@@ -7,10 +7,10 @@ use std::alloc::{AllocError, Global};
 use std::str;
 
 /// Of more than so many octets the first are shown where long ones are cut.
-const LONG: usize = 64;
+const LONG: usize = 96;
 
 /// How many of long octets are shown.
-const SHOWN: usize = 32;
+const SHOWN: usize = 48;
 
 /// Returns a value that holds no others as text, with the names that its type has, if it is known.
 /// Long octets may be cut.

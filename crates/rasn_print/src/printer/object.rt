@@ -12,7 +12,9 @@ use crate::types::MessageType;
 use json::{Pretty, Reader, Scratch, Token, Writer};
 use rasn_dynamic::decode;
 use rasn_json::Layout;
-use rasn_schema::{LeafKind, Schema, Type, Value, View, part_name, part_type, type_at};
+use rasn_schema::{
+    LeafKind, Schema, Type, Value, View, is_unknown_at, part_name, part_type, type_at,
+};
 use rasn_types::types::{BitStr, Hexadecimal, Integer};
 use std::alloc::{AllocError, Global};
 
@@ -153,7 +155,8 @@ fn put_components<'view>(
         let (Some(id), Some(title)) = (part_type(ty, index), part_name(ty, index)) else {
             break;
         };
-        if matches!(value, Value::Absent) {
+        let is_unknown = is_unknown_at(schema.types(), id);
+        if matches!(value, Value::Absent) || is_unknown && parts_of(value).is_empty() {
             continue;
         }
         out.key(title)?;
