@@ -18,6 +18,7 @@ use crate::query::{part_at, row_text};
 use crate::reading::{check, read_alone, remainder, show};
 use crate::reason::{ADVICE, Reason, path_of};
 use crate::refusal_text::{extra_from, text_of};
+use crate::similar::meant_by;
 use crate::types::{KnownType, MessageType};
 use crate::values::error_after;
 use base64::engine::general_purpose::STANDARD;
@@ -629,7 +630,9 @@ impl Message<'_, '_> {
             Ok(octets) => in_form(alloc, self.input, octets),
             Err(error) if error.is_out_of_memory() => Err(AllocError),
             Err(EncodeJsonError::Json(error)) => {
-                refused_for(alloc, &error_after(self.input.before, error))
+                let meant = meant_by(alloc, schema.types(), root, &error)?;
+                let error = error_after(self.input.before, error);
+                refused_for(alloc, &format!(in alloc; "{error}{meant}")?)
             }
             Err(error) => refused_for(alloc, &error),
         }

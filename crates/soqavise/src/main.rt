@@ -300,13 +300,15 @@ fn unreadable(rt: &HostRuntime, name: &str, error: &io::Error) -> Result<u8, Cal
     unreadable_as(rt, name, error)
 }
 
-/// Prints that a file can't be read for this reason.
+/// Prints that a file can't be read for this reason, without the number that the system has for it.
 fn unreadable_as<T: fmt::Display>(
     rt: &HostRuntime,
     name: &str,
     reason: &T,
 ) -> Result<u8, CallFault> {
     let name = name_shown(rt.alloc(), name)?;
+    let reason = reason.to_string(rt.alloc())?;
+    let (reason, _) = reason.as_str().split_once(" (os error ").unwrap_or((reason.as_str(), ""));
     eprintln!(rt; "{name}: cannot read: {reason}").map_err(CallFault::of_write)?;
     Ok(USAGE)
 }
