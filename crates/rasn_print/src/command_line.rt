@@ -77,6 +77,8 @@ pub struct Call {
     pub is_stream: bool,
     /// Whether what is shown, or the values of parts, are JSON.
     pub has_json: bool,
+    /// Whether `show` prints a page of HTML.
+    pub has_html: bool,
     /// Whether the columns of a table have commas between them, and not tabs.
     pub is_csv: bool,
     pub color: ColorChoice,
@@ -95,7 +97,7 @@ impl Call {
 
     /// Returns whether each of several messages has its name before it.
     pub(crate) fn has_headings(&self) -> bool {
-        self.work == Work::Show && !self.has_json
+        self.work == Work::Show && !self.has_json && !self.has_html
     }
 
     /// Returns how JSON is laid out: in one line if a line holds a message.
@@ -150,6 +152,16 @@ fn show_command<'a>(alloc: Global) -> Result<Command<'a>, AllocError> {
                 "json",
                 "Prints the same as JSON, with all octets; `json` prints that of X.697",
             )
+            .conflicts_with("offsets")?,
+        )?
+        .arg(
+            flag(
+                alloc,
+                "html",
+                "Prints a page of HTML: parts, where departures from DER are marked, beside octets",
+            )
+            .conflicts_with("json")?
+            .conflicts_with("lines")?
             .conflicts_with("offsets")?,
         )
 }
@@ -402,6 +414,7 @@ pub fn call_of(alloc: Global, matches: &ArgMatches<'_>) -> Result<Option<Call>, 
         has_json_errors: inner.get_str("errors") == Some("json"),
         is_stream: inner.get_flag("stream"),
         has_json: inner.get_flag("json"),
+        has_html: inner.get_flag("html"),
         is_csv: inner.get_flag("csv"),
         color: color_of(inner.get_str("color")),
     }))

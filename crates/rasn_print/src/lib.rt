@@ -18,6 +18,8 @@ mod listing;
 mod messages;
 mod name;
 mod offsets;
+mod page;
+mod page_text;
 mod pasted;
 mod pem_fault;
 mod printer;

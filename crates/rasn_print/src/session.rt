@@ -7,6 +7,7 @@ use crate::dump::{Entries, Entry, entry_line, fault_text, first_encoding};
 use crate::fault::CallFault;
 use crate::input::{Form, form_of, form_of_line, is_plain_text, without_mark};
 use crate::known::Candidates;
+use crate::page::{page_block, page_head, refused_data};
 use crate::messages::{TRUST, TRUSTED};
 use crate::pasted::unindented;
 use crate::pem_fault::block_fault;
@@ -221,6 +222,10 @@ impl<W: Write + Drop, E: Write + Drop> Session<'_, W, E> {
             return self.dump(name, input.octets);
         }
         match self.answer(input)? {
+            Answer::Done(data) if self.call.has_html => {
+                let block = page_block(self.alloc, name, &data)?;
+                self.write(&block)
+            }
             Answer::Done(octets) => {
                 if self.call.work == Work::Table {
                     self.write_cell(name)?;
@@ -239,9 +244,26 @@ impl<W: Write + Drop, E: Write + Drop> Session<'_, W, E> {
                 if is_octets && self.call.work != Work::Encode && is_plain_text(input.octets) {
                     text.push_str(NO_FORM)?;
                 }
+                if self.call.has_html {
+                    self.write_refused(name, input.octets, &reason)?;
+                }
                 self.refuse(name, &text)
             }
         }
+    }
+
+    /// Writes the block of a message that is refused.
+    fn write_refused(
+        &mut self,
+        name: &str,
+        octets: &[u8],
+        reason: &Reason,
+    ) -> Result<(), CallFault> {
+        let alloc = self.alloc;
+        let index = self.catalog.resolve(alloc, self.call, Candidates::Nothing)?;
+        let data = refused_data(alloc, self.catalog.known(index), octets, reason)?;
+        let block = page_block(alloc, name, &data)?;
+        self.write(&block)
     }
 
     /// Writes the name of a message, if that is wanted.
@@ -300,13 +322,17 @@ impl<W: Write + Drop, E: Write + Drop> Session<'_, W, E> {
         Ok(answer_to(&self.context(index), input)?)
     }
 
-    /// Writes the first line of a table, if one is asked for: the names of its columns, which are the
-    /// paths to the parts.
+    /// Writes the first line of a table, if one is asked for, that is the names of its columns, which
+    /// are the paths to the parts; or the beginning of a page.
     ///
     /// # Errors
     /// As `flush`.
     pub fn begin(&mut self) -> Result<(), CallFault> {
         let call = self.call;
+        if call.has_html {
+            let head = page_head(self.alloc)?;
+            return self.write(head.as_bytes());
+        }
         if call.work != Work::Table {
             return Ok(());
         }

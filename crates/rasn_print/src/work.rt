@@ -11,6 +11,7 @@ use crate::example::example_of;
 use crate::fingerprint::fingerprint_line;
 use crate::known::{Candidates, Known};
 use crate::offsets::offsets_text;
+use crate::page::{Listed, NESTED, Nest, list, page_data};
 use crate::printer::large::LARGE;
 use crate::printer::line_text;
 use crate::printer::object::object_text;
@@ -477,6 +478,9 @@ impl Message<'_, '_> {
         if call.has_json {
             return self.shown_as_json();
         }
+        if call.has_html {
+            return self.shown_on_page();
+        }
         if self.octets.len() >= LARGE && !call.has_offsets {
             return self.shown_in_parts();
         }
@@ -510,6 +514,34 @@ impl Message<'_, '_> {
             }
             Err(refusal) => self.refused(refusal),
         }
+    }
+
+    /// Returns its data for a page, with what departs from DER.
+    fn shown_on_page(&self) -> Answered {
+        let (context, wanted) = (self.context, self.wanted);
+        let alloc = context.alloc;
+        let mut listed = Listed::new(alloc, context.known, wanted.rule)?;
+        let nest = Nest {
+            offset: 0,
+            depth: 0,
+            levels: NESTED,
+        };
+        if let Some(refusal) = list(&mut listed, wanted.root, self.octets, nest)? {
+            return self.refused(refusal);
+        }
+        let departures = match self.linted()? {
+            Answer::Departures(reasons) => reasons,
+            Answer::Refused(reason) => vec![in alloc; reason]?,
+            Answer::Done(_) | Answer::Large(_) => Vec::new(alloc),
+        };
+        let data = page_data(
+            alloc,
+            wanted,
+            self.octets,
+            &listed,
+            departures.as_slice(),
+        )?;
+        Ok(Answer::Done(data))
     }
 
     /// Returns that its lines are made as they are written.
