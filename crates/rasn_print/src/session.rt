@@ -111,6 +111,10 @@ impl<W: Write + Drop, E: Write + Drop> Session<'_, W, E> {
                 break;
             }
             let value = first_value(rest, &mut scratch)?;
+            if value.len() == rest.len() {
+                // The last value needs none of it.
+                scratch = Scratch::new(alloc);
+            }
             let input = Input {
                 before,
                 ..Input::of(value.as_bytes())
