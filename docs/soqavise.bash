@@ -29,7 +29,7 @@ _soqavise() {
     local word=${COMP_WORDS[COMP_CWORD]} before=${COMP_WORDS[COMP_CWORD - 1]} options='--help'
     local commands='show check lint json encode normalise types dump get table generate help'
     case ${COMP_WORDS[1]} in
-        show) options+=' --offsets --full --json --color' ;;
+        show) options+=' --offsets --full --json --html --color' ;;
         check | lint) options+=' --outer' ;;
         get) options+=' --json' ;;
         table) options+=' --csv' ;;
