@@ -165,7 +165,8 @@ impl<'a> Listed<'a> {
         let begin = octets.get(refusal.offset..).unwrap_or(&[]);
         let cause = text_of(self.alloc, &refusal.error, begin, End::Input)?;
         let text = format!(in self.alloc; "not of {hint}: {cause}")?;
-        self.faults.push((offset, text))
+        self.faults.push((offset, text))?;
+        Ok(())
     }
 }
 
