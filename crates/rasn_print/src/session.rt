@@ -393,7 +393,7 @@ impl<W: Write + Drop, E: Write + Drop> Session<'_, W, E> {
         let mut entries = Entries::opened(self.alloc, octets);
         // Each encoding has an octet of its own.
         for _ in octets {
-            match entries.next() {
+            match entries.next_opened() {
                 Ok(Some(entry)) => self.write_entry(&entry)?,
                 Ok(None) => return Ok(()),
                 Err(error) => {
