@@ -3,8 +3,7 @@
 
 mod list;
 
-use crate::dump::{Entries, tag_text};
-use crate::known::Known;
+use crate::dump::tag_text;
 use crate::leaf::names_of;
 use crate::page_text::{POLICY, SCRIPT, STYLE};
 use crate::reason::Reason;
@@ -13,8 +12,9 @@ use json::Writer;
 pub(crate) use list::{Listed, NESTED, Nest, list};
 use rasn_schema::{NamedNumber, Type, part_name};
 use rasn_text::{Escaping, visible};
-use rasn_types::types::{Codec, Hexadecimal};
+use rasn_types::types::Hexadecimal;
 use std::alloc::{AllocError, Global};
+use std::slice;
 
 /// Whether there was memory for what is written.
 type Put = Result<(), AllocError>;
@@ -67,27 +67,32 @@ pub(crate) fn page_data(
     Ok(script_text(alloc, out.into_inner())?.into_bytes())
 }
 
-/// Returns the data of octets that are refused: their encodings up to the first whose header can't be
-/// read, and why and where they are refused.
+/// Returns the data of octets that are refused, with why and where. They have no parts: the script
+/// shows their encodings as far as it finds any.
 ///
 /// # Errors
 /// `AllocError` if memory runs out.
 pub(crate) fn refused_data(
     alloc: Global,
-    known: &Known<'_>,
     octets: &[u8],
     reason: &Reason,
 ) -> Result<Vec<u8>, AllocError> {
-    let mut listed = Listed::new(alloc, known, Codec::Ber)?;
-    listed.push_entries(&mut Entries::opened(alloc, octets), octets.len(), 0, 0)?;
     let mut out = Writer::new(Vec::new(alloc));
     out.begin_object()?;
     out.key("type")?;
     out.string("")?;
     put_refused(&mut out, Some(&reason.to_line(alloc)?))?;
     put_octets(&mut out, alloc, octets)?;
-    let reasons = std::slice::from_ref(reason);
-    put_listed(&mut out, alloc, &listed, reasons)?;
+    out.key("parts")?;
+    out.begin_array()?;
+    out.end_array()?;
+    out.key("types")?;
+    out.begin_object()?;
+    out.end_object()?;
+    out.key("identifiers")?;
+    out.begin_object()?;
+    out.end_object()?;
+    put_faults(&mut out, &[], slice::from_ref(reason))?;
     out.end_object()?;
     Ok(script_text(alloc, out.into_inner())?.into_bytes())
 }
@@ -131,9 +136,14 @@ fn put_listed(out: &mut Writer, alloc: Global, listed: &Listed<'_>, reasons: &[R
         out.string(name)?;
     }
     out.end_object()?;
+    put_faults(out, listed.faults.as_slice(), reasons)
+}
+
+/// Writes what is wrong at which octet.
+fn put_faults(out: &mut Writer, faults: &[(usize, String)], reasons: &[Reason]) -> Put {
     out.key("faults")?;
     out.begin_array()?;
-    for (offset, text) in &listed.faults {
+    for (offset, text) in faults {
         put_fault(out, *offset, text.as_str())?;
     }
     for reason in reasons {

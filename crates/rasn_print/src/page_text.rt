@@ -1,7 +1,7 @@
 //! The script and the style of a page: `.ci/page` writes this file from `page/`.
 
 /// What a page may load and run: this script and this style alone (Content Security Policy Level 3).
-pub(crate) const POLICY: &str = "default-src 'none'; script-src 'sha256-05uEYybbcyGK1ZTdGbFcljAE6JsMPdhLnKOTXGSBjIg='; style-src 'sha256-/dqgIzy9+5o//clABFbTCNycxIBU43ZYxslefE3ucFg='; base-uri 'none'; form-action 'none'";
+pub(crate) const POLICY: &str = "default-src 'none'; script-src 'sha256-U262ZVEQaUr3lQt5SiBAI+f/jB9KTWugxNw6qUYmD9k='; style-src 'sha256-/wfDMSdHoUpy1TPjsOK/xeD6N8ee5q+q3bxqr3cmN1g='; base-uri 'none'; form-action 'none'";
 
 /// The style of a page.
 pub(crate) const STYLE: &str = ":root { color-scheme: light dark; --back: #fff; --ink: #1d2126; --soft: #6a737d; --line: #d8dde3; --head: #cfe3ff; --body: #e9f2ff; --warn: #a34200; --bad: #b00020; --hit: #fff3bf; }
@@ -29,6 +29,7 @@ input { font: inherit; padding: .15rem .5rem; border: 1px solid var(--line); bor
 .type { flex: none; color: var(--soft); font-size: .85em; margin-left: auto; padding-left: .5rem; }
 .fault { color: var(--warn); overflow-wrap: anywhere; padding: 0 .5rem 0 1.9rem; }
 .place { color: var(--soft); }
+.more { font: inherit; margin-left: 1.2rem; }
 .h { background: var(--head); }
 .c { background: var(--body); }
 @media (max-width: 60rem) { .views { grid-template-columns: 1fr; height: auto; } .tree, .octets { height: 50vh; } }
@@ -45,7 +46,7 @@ pub(crate) const SCRIPT: &str = "\"use strict\";
   // The numbers of a part: how deep it is, where it begins after the part before it, how many octets its header has and it has itself, its index in
   // what holds it, and its type.
   const NUMBERS = 6;
-  const ROW = 18, WIDE = 16, SHOWN = 64;
+  const ROW = 18, WIDE = 16, SHOWN = 64, MANY = 500;
 
   const make = (name, style, text) => {
     const node = document.createElement(name);
@@ -98,13 +99,52 @@ pub(crate) const SCRIPT: &str = "\"use strict\";
     }
   };
 
+  // Whether the pointer has moved, and not what is under it.
+  let pointer = \"\";
+  const hasMoved = event => {
+    const before = pointer;
+    pointer = event.screenX + \",\" + event.screenY;
+    return pointer !== before;
+  };
+
+  // The encodings of octets that are refused, as far as their headers can be read. What is cut short ends with the octets.
+  const encodings = octets => {
+    const numbers = [], around = [];
+    let at = 0, before = 0;
+    while (at < octets.length) {
+      const { end, isOpen } = around[around.length - 1] || { end: Infinity };
+      if (isOpen ? octets[at] === 0 && octets[at + 1] === 0 : at >= end) {
+        at += isOpen ? 2 : 0;
+        around.pop();
+        continue;
+      }
+      const limit = Math.min(end, octets.length);
+      let next = at + 1;
+      if ((octets[at] & 31) === 31) while (next < limit && octets[next++] > 127);
+      if (next >= limit) break;
+      const first = octets[next++];
+      let length = first;
+      if (first > 128) {
+        length = 0;
+        for (let more = first & 127; more > 0 && next < limit; more--) length = length * 256 + octets[next++];
+      }
+      const whole = first === 128 ? limit : Math.min(limit, next + length);
+      numbers.push(around.length, at - before, next - at, whole - at, -1, -1);
+      before = at;
+      if (octets[at] & 32) around.push({ end: whole, isOpen: first === 128 });
+      at = octets[at] & 32 ? next : whole;
+    }
+    return numbers;
+  };
+
   class Message {
     constructor(name, data, prefix) {
       this.data = data;
       this.prefix = prefix;
       this.octets = Uint8Array.from({ length: data.octets.length / 2 }, (_, at) => parseInt(data.octets.substr(2 * at, 2), 16));
-      this.read(data.parts);
+      this.read(data.parts.length ? data.parts : encodings(this.octets));
       this.rows = new Map();
+      this.lists = new Map();
       this.marked = -1;
       this.draw(name);
     }
@@ -188,11 +228,13 @@ pub(crate) const SCRIPT: &str = "\"use strict\";
     path(part) {
       const steps = [];
       for (let at = part; this.parent[at] >= 0; at = this.parent[at]) steps.unshift(this.step(at));
-      return steps.reduce((path, step) => path && !step.startsWith(\"[\") ? path + \".\" + step : path + step, \"\");
+      return steps.reduce((path, step) => path && step && !step.startsWith(\"[\") ? path + \".\" + step : path + step, \"\");
     }
 
-    // An encoding whose type isn't known has its place among those that are in the same.
+    // What is in an explicit tag has the path of this. An encoding whose type isn't known has its place among those that are in the same.
     step(part) {
+      const around = this.data.types[this.type[this.parent[part]]];
+      if (around && around.kind.startsWith(\"[\")) return \"\";
       if (this.index[part] >= 0) return this.label(part);
       return this.data.types[this.type[part]] ? \"contents\" : \"[\" + this.order[part] + \"]\";
     }
@@ -262,6 +304,10 @@ pub(crate) const SCRIPT: &str = "\"use strict\";
       this.drawOctets(views);
       if (this.parts) this.open(this.tree.appendChild(make(\"ul\")), 0);
       this.tree.addEventListener(\"keydown\", event => this.key(event));
+      this.tree.addEventListener(\"mousemove\", event => {
+        const row = event.target.closest(\".row\");
+        if (hasMoved(event) && row) this.mark(Number(row.dataset.part));
+      });
       document.body.appendChild(section);
       this.drawRows();
     }
@@ -278,36 +324,50 @@ pub(crate) const SCRIPT: &str = "\"use strict\";
       for (const [at, text] of this.data.faults) {
         if (this.at(at) === part) item.appendChild(make(\"div\", \"fault\", text));
       }
-      row.addEventListener(\"mouseenter\", () => this.mark(part));
       row.addEventListener(\"click\", () => {
         this.fold(part);
         history.replaceState(null, \"\", \"#\" + this.prefix + encodeURI(this.path(part)));
       });
       this.rows.set(part, { item, row });
-      if (this.depth[part] < (this.parts > 400 ? 1 : 3)) this.fold(part);
+      if (this.depth[part] < (this.parts > 400 ? 1 : 4)) this.fold(part);
     }
 
     fold(part) {
       const { item, row } = this.rows.get(part);
       if (this.after[part] === part + 1) return;
-      let list = item.querySelector(\":scope > ul\");
-      if (!list) {
-        list = item.appendChild(make(\"ul\"));
-        for (const next of this.inside(part)) this.open(list, next);
+      if (!this.lists.has(part)) {
+        const list = item.appendChild(make(\"ul\"));
         list.hidden = true;
+        this.lists.set(part, { list, held: this.inside(part), shown: 0 });
+        this.more(part);
       }
+      const { list } = this.lists.get(part);
       list.hidden = !list.hidden;
       row.firstChild.textContent = list.hidden ? \"+\" : \"\\u2212\";
+    }
+
+    // Adds the next of the parts that a part holds to its list.
+    more(part) {
+      const of = this.lists.get(part);
+      of.rest?.remove();
+      const end = Math.min(of.shown + MANY, of.held.length);
+      while (of.shown < end) this.open(of.list, of.held[of.shown++]);
+      if (end < of.held.length) {
+        of.rest = of.list.appendChild(make(\"li\"));
+        of.rest.appendChild(make(\"button\", \"more\", of.held.length - end + \" more\")).addEventListener(\"click\", () => this.more(part));
+      }
     }
 
     // Unfolds what is around a part, and brings it into view.
     show(part) {
       const above = [];
       for (let at = this.parent[part]; at >= 0; at = this.parent[at]) above.unshift(at);
-      for (const at of above) {
-        const list = this.rows.get(at).item.querySelector(\":scope > ul\");
-        if (!list || list.hidden) this.fold(at);
-      }
+      above.push(part);
+      above.forEach((at, place) => {
+        if (place === above.length - 1) return;
+        if (!this.lists.has(at) || this.lists.get(at).list.hidden) this.fold(at);
+        while (!this.rows.has(above[place + 1])) this.more(at);
+      });
       this.rows.get(part).row.scrollIntoView({ block: \"nearest\" });
       this.mark(part);
       this.octetsView.scrollTop = Math.max(0, Math.floor(this.offset[part] / WIDE) * ROW - 80);
@@ -359,9 +419,9 @@ pub(crate) const SCRIPT: &str = "\"use strict\";
         const place = event.target.dataset.at;
         return place === undefined ? -1 : this.at(Number(place));
       };
-      this.octetsView.addEventListener(\"mouseover\", event => {
+      this.octetsView.addEventListener(\"mousemove\", event => {
         const over = part(event);
-        if (over >= 0) this.mark(over);
+        if (hasMoved(event) && over >= 0) this.mark(over);
       });
       this.octetsView.addEventListener(\"click\", event => {
         const over = part(event);

@@ -263,10 +263,8 @@ impl<W: Write + Drop, E: Write + Drop> Session<'_, W, E> {
         octets: &[u8],
         reason: &Reason,
     ) -> Result<(), CallFault> {
-        let alloc = self.alloc;
-        let index = self.catalog.resolve(alloc, self.call, Candidates::Nothing)?;
-        let data = refused_data(alloc, self.catalog.known(index), octets, reason)?;
-        let block = page_block(alloc, name, &data)?;
+        let data = refused_data(self.alloc, octets, reason)?;
+        let block = page_block(self.alloc, name, &data)?;
         self.write(&block)
     }
 

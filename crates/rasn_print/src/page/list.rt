@@ -106,25 +106,17 @@ impl<'a> Listed<'a> {
         Ok(())
     }
 
-    /// Adds encodings whose types aren't known, as many as there are before one whose header can't be
-    /// read: of so many octets, which begin at this offset and are in so many parts.
-    pub(crate) fn push_entries(
-        &mut self,
-        entries: &mut Entries<'_>,
-        count: usize,
-        offset: usize,
-        depth: usize,
-    ) -> Result<(), AllocError> {
+    /// Adds encodings whose types aren't known, of octets in this place.
+    fn push_entries(&mut self, octets: &[u8], nest: Nest) -> Result<(), AllocError> {
+        let mut entries = Entries::new(self.alloc, octets);
         // Each encoding has an octet of its own.
-        for _ in 0..count {
-            let entry = match entries.next() {
-                Ok(Some(entry)) => entry,
-                Err(error) if error.is_out_of_memory() => return Err(AllocError),
-                Ok(None) | Err(_) => break,
+        for _ in octets {
+            let Ok(Some(entry)) = entries.next() else {
+                break;
             };
             self.push(&Line {
-                depth: depth.saturating_add(entry.depth),
-                offset: offset.saturating_add(entry.offset),
+                depth: nest.depth.saturating_add(entry.depth),
+                offset: nest.offset.saturating_add(entry.offset),
                 header_len: entry.header_len,
                 len: entry.octets.len(),
                 index: None,
@@ -348,14 +340,8 @@ fn list_held(
 
 /// Lists the encodings that octets of an open type are, if each header can be read.
 fn list_entries(listed: &mut Listed<'_>, octets: &[u8], nest: Nest) -> Result<(), AllocError> {
-    let alloc = listed.alloc;
-    match are_entries(alloc, octets) {
-        Ok(true) => listed.push_entries(
-            &mut Entries::new(alloc, octets),
-            octets.len(),
-            nest.offset,
-            nest.depth,
-        ),
+    match are_entries(listed.alloc, octets) {
+        Ok(true) => listed.push_entries(octets, nest),
         Ok(false) => Ok(()),
         Err(_) => Err(AllocError),
     }
