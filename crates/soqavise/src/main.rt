@@ -127,14 +127,24 @@ fn run_call(rt: &HostRuntime, call: &Call) -> Result<u8, CallFault> {
     }
     let sources = sources_of(alloc, texts.as_slice())?;
     let (read, faults) = modules_of(alloc, sources.as_slice())?;
+    run_modules(rt, call, &read, faults.as_str())
+}
+
+/// Runs a call with these modules, whose faults are printed.
+fn run_modules(
+    rt: &HostRuntime,
+    call: &Call,
+    read: &Modules<'_>,
+    faults: &str,
+) -> Result<u8, CallFault> {
     eprint!(rt; "{faults}").map_err(CallFault::of_write)?;
     if call.work == Work::Types {
-        let warnings = warnings_of(alloc, &read)?;
+        let warnings = warnings_of(rt.alloc(), read)?;
         eprint!(rt; "{warnings}").map_err(CallFault::of_write)?;
-        let are_whole = run_types(rt, call, &read)? && faults.is_empty();
+        let are_whole = run_types(rt, call, read)? && faults.is_empty();
         return Ok(if are_whole { 0 } else { REFUSED });
     }
-    run_work(rt, call, Catalog::new(alloc, Some(&read)))
+    run_work(rt, call, Catalog::new(rt.alloc(), Some(read)))
 }
 
 /// Appends the text of a file of modules, or of those in a folder, with their names. Returns the exit
