@@ -215,12 +215,7 @@ impl<W: Write + Drop, E: Write + Drop> Session<'_, W, E> {
     }
 
     /// Works on a message, and writes its name before it if that is wanted.
-    fn message(
-        &mut self,
-        name: &str,
-        input: &Input<'_>,
-        is_headed: bool,
-    ) -> Result<(), CallFault> {
+    fn message(&mut self, name: &str, input: &Input<'_>, is_headed: bool) -> Result<(), CallFault> {
         if self.call.work == Work::Dump {
             return self.dump(name, input.octets);
         }

@@ -318,7 +318,10 @@ fn unreadable_as<T: fmt::Display>(
 ) -> Result<u8, CallFault> {
     let name = name_shown(rt.alloc(), name)?;
     let reason = reason.to_string(rt.alloc())?;
-    let (reason, _) = reason.as_str().split_once(" (os error ").unwrap_or((reason.as_str(), ""));
+    let (reason, _) = reason
+        .as_str()
+        .split_once(" (os error ")
+        .unwrap_or((reason.as_str(), ""));
     eprintln!(rt; "{name}: cannot read: {reason}").map_err(CallFault::of_write)?;
     Ok(USAGE)
 }
