@@ -196,7 +196,7 @@ fn is_colored(rt: &HostRuntime, color: ColorChoice) -> bool {
 }
 
 /// Runs the work of a call on each file, or on standard input without one. Returns the exit status.
-fn run_work(rt: &HostRuntime, call: &Call, catalog: Catalog<'_>) -> Result<u8, CallFault> {
+fn run_work(rt: &HostRuntime, call: &Call, catalog: Catalog<'_, '_>) -> Result<u8, CallFault> {
     let alloc = rt.alloc();
     let mut catalog = catalog;
     catalog.resolve_named(alloc, call)?;
@@ -221,7 +221,7 @@ fn run_work(rt: &HostRuntime, call: &Call, catalog: Catalog<'_>) -> Result<u8, C
 /// Works on each file, or on standard input without one. Returns the exit status.
 fn run_files<W: Write + Drop, E: Write + Drop>(
     rt: &HostRuntime,
-    session: &mut Session<'_, W, E>,
+    session: &mut Session<'_, '_, '_, W, E>,
 ) -> Result<u8, CallFault> {
     let call = session.call;
     let files = call.files.as_slice();
@@ -252,7 +252,7 @@ fn run_files<W: Write + Drop, E: Write + Drop>(
 fn file_source<W: Write + Drop, E: Write + Drop>(
     rt: &HostRuntime,
     name: &str,
-    session: &mut Session<'_, W, E>,
+    session: &mut Session<'_, '_, '_, W, E>,
 ) -> Result<u8, CallFault> {
     if name == STDIN {
         return source(rt, "standard input", rt.stdin(), session);
@@ -283,7 +283,7 @@ fn source<R: Read + Drop, W: Write + Drop, E: Write + Drop>(
     rt: &HostRuntime,
     name: &str,
     reader: R,
-    session: &mut Session<'_, W, E>,
+    session: &mut Session<'_, '_, '_, W, E>,
 ) -> Result<u8, CallFault> {
     let alloc = rt.alloc();
     if session.call.has_lines {

@@ -118,7 +118,7 @@ fn unquoted(alloc: Global, text: &str) -> Result<String, AllocError> {
 fn run(
     alloc: Global,
     call: &Call,
-    catalog: Catalog<'_>,
+    catalog: Catalog<'_, '_>,
     input: &[u8],
 ) -> Result<String, CallFault> {
     let mut session = Session {
@@ -144,7 +144,10 @@ fn run(
 }
 
 /// Works on an input.
-fn run_input(session: &mut Session<'_, Vec<u8>, Vec<u8>>, input: &[u8]) -> Result<(), CallFault> {
+fn run_input(
+    session: &mut Session<'_, '_, '_, Vec<u8>, Vec<u8>>,
+    input: &[u8],
+) -> Result<(), CallFault> {
     session.begin()?;
     if session.call.work == Work::Example {
         return session.example();
