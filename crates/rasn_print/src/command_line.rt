@@ -146,14 +146,12 @@ fn show_command<'a>(alloc: Global) -> Result<Command<'a>, AllocError> {
             "Prints where each part begins, and its lengths",
         ))?
         .arg(flag(alloc, "full", "Prints all of octets that are cut otherwise"))?
-        .arg(
-            flag(
-                alloc,
-                "json",
-                "Prints the same as JSON, with all octets; `json` prints that of X.697",
-            )
-            .conflicts_with("offsets")?,
-        )?
+        .arg(flag(
+            alloc,
+            "json",
+            "Prints the same as JSON, with all octets; `json` prints that of X.697",
+        )
+        .conflicts_with("offsets")?)?
         .arg(
             flag(
                 alloc,

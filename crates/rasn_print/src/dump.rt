@@ -106,7 +106,9 @@ impl<'input> Entries<'input> {
 
     /// Returns what is left of the innermost encoding.
     pub(crate) fn rest(&self) -> &'input [u8] {
-        self.octets.get(self.at..self.innermost().end).unwrap_or(&[])
+        self.octets
+            .get(self.at..self.innermost().end)
+            .unwrap_or(&[])
     }
 
     /// Leaves the innermost encoding if it ends here. Returns whether it did.

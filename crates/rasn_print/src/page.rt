@@ -9,7 +9,7 @@ use crate::page_text::{POLICY, SCRIPT, STYLE};
 use crate::reason::Reason;
 use crate::types::MessageType;
 use json::Writer;
-pub(crate) use list::{Listed, NESTED, Nest, list};
+pub(crate) use list::{Listed, parts_of_page};
 use rasn_schema::{NamedNumber, Type, part_name};
 use rasn_text::{Escaping, visible};
 use rasn_types::types::Hexadecimal;
@@ -182,8 +182,7 @@ fn put_type(out: &mut Writer, alloc: Global, ty: &Type) -> Put {
     out.key("kind")?;
     out.string(kind_text(alloc, ty)?.as_str())?;
     match ty {
-        Type::Leaf { .. } | Type::Enumerated { .. } =>
-            put_names(out, alloc, names_of(Some(ty)))?,
+        Type::Leaf { .. } | Type::Enumerated { .. } => put_names(out, alloc, names_of(Some(ty)))?,
         Type::Sequence { .. } | Type::Set { .. } | Type::Choice { .. } => put_parts(out, ty)?,
         Type::Tagged { .. } => {
             out.key("parts")?;

@@ -1,10 +1,12 @@
 //! The script and the style of a page: `.ci/page` writes this file from `page/`.
 
 /// What a page may load and run: this script and this style alone (Content Security Policy Level 3).
-pub(crate) const POLICY: &str = "default-src 'none'; script-src 'sha256-U262ZVEQaUr3lQt5SiBAI+f/jB9KTWugxNw6qUYmD9k='; style-src 'sha256-/wfDMSdHoUpy1TPjsOK/xeD6N8ee5q+q3bxqr3cmN1g='; base-uri 'none'; form-action 'none'";
+pub(crate) const POLICY: &str =
+    "default-src 'none'; script-src 'sha256-U262ZVEQaUr3lQt5SiBAI+f/jB9KTWugxNw6qUYmD9k='; style-src 'sha256-/wfDMSdHoUpy1TPjsOK/xeD6N8ee5q+q3bxqr3cmN1g='; base-uri 'none'; form-action 'none'";
 
 /// The style of a page.
-pub(crate) const STYLE: &str = ":root { color-scheme: light dark; --back: #fff; --ink: #1d2126; --soft: #6a737d; --line: #d8dde3; --head: #cfe3ff; --body: #e9f2ff; --warn: #a34200; --bad: #b00020; --hit: #fff3bf; }
+pub(crate) const STYLE: &str =
+    ":root { color-scheme: light dark; --back: #fff; --ink: #1d2126; --soft: #6a737d; --line: #d8dde3; --head: #cfe3ff; --body: #e9f2ff; --warn: #a34200; --bad: #b00020; --hit: #fff3bf; }
 @media (prefers-color-scheme: dark) { :root { --back: #15181c; --ink: #dfe3e8; --soft: #8f98a3; --line: #343b44; --head: #1f4a80; --body: #1b3350; --warn: #ffb27a; --bad: #ff8a93; --hit: #57490f; } }
 * { box-sizing: border-box; }
 body { margin: 0; padding: 1rem; background: var(--back); color: var(--ink); font: 14px/1.45 system-ui, sans-serif; }

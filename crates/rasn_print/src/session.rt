@@ -7,8 +7,8 @@ use crate::dump::{Entries, Entry, entry_line, fault_text, first_encoding};
 use crate::fault::CallFault;
 use crate::input::{Form, form_of, form_of_line, is_plain_text, without_mark};
 use crate::known::Candidates;
-use crate::page::{page_block, page_head, refused_data};
 use crate::messages::{TRUST, TRUSTED};
+use crate::page::{page_block, page_head, refused_data};
 use crate::pasted::unindented;
 use crate::pem_fault::block_fault;
 use crate::printer::large::Lines;
@@ -30,10 +30,10 @@ const NO_FORM: &str = "; the input is text, but neither PEM, hexadecimal digits 
 
 /// Processes messages, and prints the results.
 #[derive(Drop)]
-pub struct Session<'a, W: Write + Drop, E: Write + Drop> {
+pub struct Session<'call, 'read, 'text, W: Write + Drop, E: Write + Drop> {
     pub alloc: Global,
-    pub call: &'a Call,
-    pub catalog: Catalog<'a>,
+    pub call: &'call Call,
+    pub catalog: Catalog<'read, 'text>,
     /// Whether names are in bold.
     pub is_colored: bool,
     pub output: W,
@@ -42,7 +42,7 @@ pub struct Session<'a, W: Write + Drop, E: Write + Drop> {
     pub is_refused: bool,
 }
 
-impl<W: Write + Drop, E: Write + Drop> Session<'_, W, E> {
+impl<W: Write + Drop, E: Write + Drop> Session<'_, '_, '_, W, E> {
     /// Writes octets.
     fn write(&mut self, octets: &[u8]) -> Result<(), CallFault>
         ensures { self.new.is_refused ≡ self.old.is_refused }
@@ -216,12 +216,7 @@ impl<W: Write + Drop, E: Write + Drop> Session<'_, W, E> {
     }
 
     /// Works on a message, and writes its name before it if that is wanted.
-    fn message(
-        &mut self,
-        name: &str,
-        input: &Input<'_>,
-        is_headed: bool,
-    ) -> Result<(), CallFault> {
+    fn message(&mut self, name: &str, input: &Input<'_>, is_headed: bool) -> Result<(), CallFault> {
         if self.call.work == Work::Dump {
             return self.dump(name, input.octets);
         }

@@ -18,7 +18,10 @@ pub(crate) fn first_value<'text>(
         return Ok(text);
     }
     let rest = text.get(reader.offset()..).unwrap_or("").trim_start();
-    Ok(text.get(..text.len().saturating_sub(rest.len())).unwrap_or(text))
+    Ok(
+        text.get(..text.len().saturating_sub(rest.len()))
+            .unwrap_or(text),
+    )
 }
 
 /// Returns an error of JSON with its place in a text in which this is before the JSON.
@@ -43,5 +46,8 @@ fn place_after(before: &str, line: usize, column: usize) -> (usize, usize) {
         Some((_, last)) => last,
         None => before,
     };
-    (line.saturating_add(lines), column.saturating_add(last.len()))
+    (
+        line.saturating_add(lines),
+        column.saturating_add(last.len()),
+    )
 }

@@ -11,7 +11,7 @@ use crate::example::example_of;
 use crate::fingerprint::fingerprint_line;
 use crate::known::{Candidates, Known};
 use crate::offsets::offsets_text;
-use crate::page::{Listed, NESTED, Nest, list, page_data};
+use crate::page::{page_data, parts_of_page};
 use crate::printer::large::LARGE;
 use crate::printer::line_text;
 use crate::printer::object::object_text;
@@ -519,23 +519,17 @@ impl Message<'_, '_> {
     /// Returns its data for a page, with what departs from DER.
     fn shown_on_page(&self) -> Answered {
         let (context, wanted) = (self.context, self.wanted);
-        let alloc = context.alloc;
-        let mut listed = Listed::new(alloc, context.known, wanted.rule)?;
-        let nest = Nest {
-            offset: 0,
-            depth: 0,
-            levels: NESTED,
+        let listed = match parts_of_page(context.alloc, context.known, wanted, self.octets)? {
+            Ok(listed) => listed,
+            Err(refusal) => return self.refused(refusal),
         };
-        if let Some(refusal) = list(&mut listed, wanted.root, self.octets, nest)? {
-            return self.refused(refusal);
-        }
         let departures = match self.linted()? {
             Answer::Departures(reasons) => reasons,
-            Answer::Refused(reason) => vec![in alloc; reason]?,
-            Answer::Done(_) | Answer::Large(_) => Vec::new(alloc),
+            Answer::Refused(reason) => vec![in context.alloc; reason]?,
+            Answer::Done(_) | Answer::Large(_) => Vec::new(context.alloc),
         };
         let data = page_data(
-            alloc,
+            context.alloc,
             wanted,
             self.octets,
             &listed,

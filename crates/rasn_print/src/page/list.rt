@@ -4,6 +4,7 @@ use crate::dump::{End, Entries, are_entries};
 use crate::identifiers::identifier_name;
 use crate::known::{Form, Known};
 use crate::refusal_text::text_of;
+use crate::types::MessageType;
 use rasn::refuse_remainder;
 use rasn_dynamic::{MessageParts, Part, Refusal, decode, parts_of};
 use rasn_schema::{LeafKind, Type, TypeId, Value, type_at};
@@ -11,7 +12,7 @@ use rasn_types::types::{Codec, Tag};
 use std::alloc::{AllocError, Global};
 
 /// How many messages may be in one another: each is one that an open type or a string holds.
-pub(crate) const NESTED: usize = 32;
+const NESTED: usize = 32;
 
 /// What the script has in place of an index or a type that there isn't.
 const NONE: i64 = -1;
@@ -37,7 +38,7 @@ pub(crate) struct Listed<'a> {
 
 /// Where octets are that are a message.
 #[derive(Clone, Copy)]
-pub(crate) struct Nest {
+struct Nest {
     /// Where they begin.
     pub offset: usize,
     /// In how many parts they are.
@@ -67,11 +68,7 @@ struct Outer {
 
 impl<'a> Listed<'a> {
     /// Returns that nothing is listed yet of a message that these rules read.
-    pub(crate) fn new(
-        alloc: Global,
-        known: &'a Known<'a>,
-        rule: Codec,
-    ) -> Result<Listed<'a>, AllocError> {
+    fn new(alloc: Global, known: &'a Known<'a>, rule: Codec) -> Result<Listed<'a>, AllocError> {
         let mut types = Vec::new(alloc);
         for _ in known.schema.types() {
             types.push(false)?;
@@ -96,7 +93,8 @@ impl<'a> Listed<'a> {
         self.numbers.push(after as i64)?;
         self.numbers.push(line.header_len as i64)?;
         self.numbers.push(line.len as i64)?;
-        self.numbers.push(line.index.map_or(NONE, |index| index as i64))?;
+        self.numbers
+            .push(line.index.map_or(NONE, |index| index as i64))?;
         self.numbers.push(line.id.map_or(NONE, |id| id.0 as i64))?;
         if let Some(id) = line.id {
             if let Some(is_used) = self.types.get_mut(id.0) {
@@ -162,13 +160,35 @@ impl<'a> Listed<'a> {
     }
 }
 
+/// Returns the parts of a message of this type and of what it holds, or why it is refused.
+///
+/// # Errors
+/// `AllocError` if memory runs out.
+pub(crate) fn parts_of_page<'a>(
+    alloc: Global,
+    known: &'a Known<'a>,
+    wanted: &MessageType<'_>,
+    octets: &[u8],
+) -> Result<Result<Listed<'a>, Refusal>, AllocError> {
+    let mut listed = Listed::new(alloc, known, wanted.rule)?;
+    let nest = Nest {
+        offset: 0,
+        depth: 0,
+        levels: NESTED,
+    };
+    match list(&mut listed, wanted.root, octets, nest)? {
+        Some(refusal) => Ok(Err(refusal)),
+        None => Ok(Ok(listed)),
+    }
+}
+
 /// Lists the parts of a message of this type, which is in this place. Returns why it is refused, if it
 /// is: then nothing is listed.
 ///
 /// # Errors
 /// `AllocError` if memory runs out.
 #[cycle(list)]
-pub(crate) fn list(
+fn list(
     listed: &mut Listed<'_>,
     id: TypeId,
     octets: &[u8],
@@ -259,10 +279,7 @@ fn is_passed(ty: Option<&Type>) -> bool {
     matches!(
         ty,
         Some(
-            Type::SequenceOf { .. }
-                | Type::SetOf { .. }
-                | Type::Choice { .. }
-                | Type::Tagged { .. }
+            Type::SequenceOf { .. } | Type::SetOf { .. } | Type::Choice { .. } | Type::Tagged { .. }
         )
     )
 }
@@ -314,7 +331,11 @@ fn list_held(
     let Some((form, begin)) = held_in(type_of(listed, part.id), part) else {
         return Ok(());
     };
-    let end = part.octets.len().saturating_sub(if begin > 0 && part.is_indefinite { 2 } else { 0 });
+    let end = part.octets.len().saturating_sub(if begin > 0 && part.is_indefinite {
+        2
+    } else {
+        0
+    });
     let held = part.octets.get(begin..end).unwrap_or(&[]);
     let nest = Nest {
         offset: place.offset.saturating_add(begin),

@@ -37,11 +37,7 @@ pub(crate) fn object_text(
 ) -> Result<String, AllocError> {
     let place = LinePlace::of(alloc, known, wanted.rule, wanted.name);
     let mut out = Writer::new(Vec::new(alloc));
-    put(
-        &mut out,
-        place,
-        &wanted.schema.view(wanted.root, value),
-    )?;
+    put(&mut out, place, &wanted.schema.view(wanted.root, value))?;
     let text = written(alloc, out.into_inner());
     match layout {
         Layout::Compact => Ok(text),
@@ -184,10 +180,7 @@ fn put_elements<'view>(
         let Some(id) = part_type(ty, index) else {
             break;
         };
-        let part = LinePlace {
-            title: "",
-            ..place
-        };
+        let part = LinePlace { title: "", ..place };
         put(out, part, &schema.view(id, value))?;
     }
     out.end_array()
@@ -260,7 +253,12 @@ fn put_closed(
     if form == Form::Open {
         if let (Some(id), Some(value)) = (known.universal, known.universal_value(alloc, octets)?) {
             if let Some((_, inner)) = inside(&known.schema.view(id, &value)) {
-                return put_leaf(out, alloc, type_at(known.schema.types(), inner.type_id), inner.value);
+                return put_leaf(
+                    out,
+                    alloc,
+                    type_at(known.schema.types(), inner.type_id),
+                    inner.value,
+                );
             }
         }
     }
