@@ -330,7 +330,7 @@ pub(crate) fn primitive_text(
     entry: &Entry<'_>,
 ) -> Result<String, AllocError> {
     if let Some(Value::Chosen(_, value)) = &known.universal_value(alloc, entry.octets)? {
-        return leaf_text(alloc, None, value);
+        return leaf_text(alloc, known, None, value);
     }
     octets_text(alloc, entry.octets.get(entry.header_len..).unwrap_or(&[]))
 }

@@ -1,6 +1,7 @@
 //! Values that hold no other values, as text.
 
 use crate::identifiers::identifier_text;
+use crate::known::Known;
 use rasn_schema::{LeafKind, NamedNumber, Type, Value, name_of_number};
 use rasn_types::types::{BitStr, BmpString, Hexadecimal, Integer};
 use std::alloc::{AllocError, Global};
@@ -9,6 +10,7 @@ use std::str;
 /// Returns a value that holds no others as text, with the names that its type has, if it is known.
 pub(crate) fn leaf_text(
     alloc: Global,
+    known: &Known<'_>,
     ty: Option<&Type>,
     value: &Value<'_>,
 ) -> Result<String, AllocError> {
@@ -27,7 +29,7 @@ pub(crate) fn leaf_text(
             Some(text) => octets_text(alloc, text.as_bytes()),
             None => Hexadecimal::new(units.as_octets()).to_string(alloc),
         },
-        Value::Arcs(identifier) => identifier_text(alloc, identifier),
+        Value::Arcs(identifier) => identifier_text(alloc, known, identifier),
         Value::Instant(time) => time.to_string(alloc),
         Value::Day(date) => date.to_string(alloc),
         Value::Items(_) | Value::Elements(_) | Value::Chosen(_, _) | Value::Absent => {

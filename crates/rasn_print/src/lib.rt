@@ -8,6 +8,7 @@ mod command_line;
 mod dump;
 mod example;
 mod fault;
+mod identifier_names;
 mod identifiers;
 mod input;
 mod known;
