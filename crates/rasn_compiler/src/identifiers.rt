@@ -88,11 +88,15 @@ fn identifier_of<'text>(
     if assignment.parameters.is_some() || !may_be_identifier(module, of) {
         return Ok(None);
     }
-    match resolver.default_value(Place::of(index), of, value, assignment.position) {
-        Ok(Value::Arcs(identifier)) => Ok(Some(identifier)),
-        Err(Halt::OutOfMemory) => Err(AllocError),
-        Ok(_) | Err(Halt::Fault(_)) => Ok(None),
-    }
+    let value = match resolver.default_value(Place::of(index), of, value, assignment.position) {
+        Ok(value) => value,
+        Err(Halt::OutOfMemory) => return Err(AllocError),
+        Err(Halt::Fault(_)) => return Ok(None),
+    };
+    let Value::Arcs(identifier) = &value else {
+        return Ok(None);
+    };
+    Ok(Some(identifier.try_clone(resolver.alloc)?))
 }
 
 /// Returns whether a type of a module is OBJECT IDENTIFIER, or has a name that may mean it.

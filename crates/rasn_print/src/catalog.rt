@@ -277,7 +277,12 @@ fn own_identifiers<'text>(
     read: &Modules<'text>,
 ) -> Result<BTreeMap<ObjectIdentifier, &'text str>, AllocError> {
     let mut names = BTreeMap::new(alloc);
-    for NamedIdentifier { name, identifier } in read.identifiers(alloc)? {
+    for found in read.identifiers(alloc)? {
+        let NamedIdentifier {
+            name,
+            identifier,
+            ..
+        } = found;
         if !names.contains_key(&identifier) {
             names.insert(identifier, name)?;
         }
