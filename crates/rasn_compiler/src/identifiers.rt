@@ -8,7 +8,7 @@ use crate::resolver::{Place, Resolver};
 use crate::steps::Steps;
 use crate::tree::{Assigned, Assignment, Base, Builtin, Module, TypeIndex};
 use rasn_schema::Value;
-use rasn_types::types::ObjectIdentifier;
+use rasn_types::types::{ObjectIdentifier, TryClone};
 use std::alloc::{AllocError, Global};
 
 /// An identifier, with the name that a module assigns it to.
