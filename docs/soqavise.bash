@@ -60,7 +60,7 @@ _soqavise() {
         encode) options='-m --module -t --type --example -r --rules -l --lines --errors' ;;
         normalise) options='-m --module -t --type -l --lines --errors --stream -i --input -r --rules' ;;
         types) options='-m --module' ;;
-        dump) options='-i --input' ;;
+        dump) options='-m --module -i --input' ;;
         get) options='-m --module -t --type -l --lines --errors --stream -i --input -r --rules --json' ;;
         table) options='-m --module -t --type -l --lines --errors --stream -i --input -r --rules --csv' ;;
         generate) options='--out --message --also --type --open --from' ;;

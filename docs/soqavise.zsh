@@ -125,6 +125,7 @@ _soqavise() {
                 dump)
                     _arguments -s -S \
                         '(- *)'{-h,--help}'[Prints help]' \
+                        '*'{-m,--module}'[Reads modules of ASN.1 from this file, too; may be repeated]:FILE:_files' \
                         '(-i --input)'{-i,--input}'[The form of the input (without it, it is found out)]:FORM:(der pem hex base64)' \
                         '*:FILE:_files'
                     ;;

@@ -229,6 +229,7 @@ fn dump_command<'a>(alloc: Global) -> Result<Command<'a>, AllocError> {
     Command::new(alloc, "dump")
         .about("Prints headers, lengths and values of any BER, without a type")
         .after_help("Example: soqavise dump message.ber")
+        .arg(modules(alloc))?
         .arg(input(alloc))?
         .arg(files(alloc))
 }
