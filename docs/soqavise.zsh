@@ -46,12 +46,12 @@ _soqavise() {
                     _arguments -s -S \
                         '(- *)'{-h,--help}'[Prints help]' \
                         '*'{-m,--module}'[Reads modules of ASN.1 from this file, too; may be repeated]:FILE:_files' \
-                        '(-t --type)'{-t,--type}'[The type of the messages (without it, it is found out)]:\[MODULE.\]TYPE:_soqavise_types' \
+                        '(-t --type)'{-t,--type}'[The type of the messages (without it, that of the label of PEM, or the first that reads a message)]:\[MODULE.\]TYPE:_soqavise_types' \
                         '(-l --lines)'{-l,--lines}'[Reads a message from each line, in hexadecimal or base64]' \
                         --errors'[The form in which --lines prints why a line is refused (without it, text)]:FORM:(text json)' \
                         --stream'[Reads several messages in a row, with nothing between them]' \
                         '(-i --input)'{-i,--input}'[The form of the input (without it, it is found out)]:FORM:(der pem hex base64)' \
-                        '(-r --rules)'{-r,--rules}'[The encoding rules by which messages are read (without it, those of the type'\''s standard)]:RULES:(ber cer der)' \
+                        '(-r --rules)'{-r,--rules}'[The encoding rules by which messages are read (without it, BER for types of CMS, LDAP, PKCS12 and SNMP, DER for others)]:RULES:(ber cer der)' \
                         --color'[When names are in bold (without it, on a terminal where NO_COLOR isn'\''t set)]:WHEN:(auto always never)' \
                         --offsets'[Prints where each part begins, and its lengths]' \
                         '*:FILE:_files'
@@ -60,12 +60,12 @@ _soqavise() {
                     _arguments -s -S \
                         '(- *)'{-h,--help}'[Prints help]' \
                         '*'{-m,--module}'[Reads modules of ASN.1 from this file, too; may be repeated]:FILE:_files' \
-                        '(-t --type)'{-t,--type}'[The type of the messages (without it, it is found out)]:\[MODULE.\]TYPE:_soqavise_types' \
+                        '(-t --type)'{-t,--type}'[The type of the messages (without it, that of the label of PEM, or the first that reads a message)]:\[MODULE.\]TYPE:_soqavise_types' \
                         '(-l --lines)'{-l,--lines}'[Reads a message from each line, in hexadecimal or base64]' \
                         --errors'[The form in which --lines prints why a line is refused (without it, text)]:FORM:(text json)' \
                         --stream'[Reads several messages in a row, with nothing between them]' \
                         '(-i --input)'{-i,--input}'[The form of the input (without it, it is found out)]:FORM:(der pem hex base64)' \
-                        '(-r --rules)'{-r,--rules}'[The encoding rules by which messages are read (without it, those of the type'\''s standard)]:RULES:(ber cer der)' \
+                        '(-r --rules)'{-r,--rules}'[The encoding rules by which messages are read (without it, BER for types of CMS, LDAP, PKCS12 and SNMP, DER for others)]:RULES:(ber cer der)' \
                         --outer'[Leaves out what is inside open types]' \
                         '*:FILE:_files'
                     ;;
@@ -73,7 +73,7 @@ _soqavise() {
                     _arguments -s -S \
                         '(- *)'{-h,--help}'[Prints help]' \
                         '*'{-m,--module}'[Reads modules of ASN.1 from this file, too; may be repeated]:FILE:_files' \
-                        '(-t --type)'{-t,--type}'[The type of the messages (without it, it is found out)]:\[MODULE.\]TYPE:_soqavise_types' \
+                        '(-t --type)'{-t,--type}'[The type of the messages (without it, that of the label of PEM, or the first that reads a message)]:\[MODULE.\]TYPE:_soqavise_types' \
                         '(-l --lines)'{-l,--lines}'[Reads a message from each line, in hexadecimal or base64]' \
                         --errors'[The form in which --lines prints why a line is refused (without it, text)]:FORM:(text json)' \
                         --stream'[Reads several messages in a row, with nothing between them]' \
@@ -85,12 +85,12 @@ _soqavise() {
                     _arguments -s -S \
                         '(- *)'{-h,--help}'[Prints help]' \
                         '*'{-m,--module}'[Reads modules of ASN.1 from this file, too; may be repeated]:FILE:_files' \
-                        '(-t --type)'{-t,--type}'[The type of the messages (without it, it is found out)]:\[MODULE.\]TYPE:_soqavise_types' \
+                        '(-t --type)'{-t,--type}'[The type of the messages (without it, that of the label of PEM, or the first that reads a message)]:\[MODULE.\]TYPE:_soqavise_types' \
                         '(-l --lines)'{-l,--lines}'[Reads a message from each line, in hexadecimal or base64]' \
                         --errors'[The form in which --lines prints why a line is refused (without it, text)]:FORM:(text json)' \
                         --stream'[Reads several messages in a row, with nothing between them]' \
                         '(-i --input)'{-i,--input}'[The form of the input (without it, it is found out)]:FORM:(der pem hex base64)' \
-                        '(-r --rules)'{-r,--rules}'[The encoding rules by which messages are read (without it, those of the type'\''s standard)]:RULES:(ber cer der)' \
+                        '(-r --rules)'{-r,--rules}'[The encoding rules by which messages are read (without it, BER for types of CMS, LDAP, PKCS12 and SNMP, DER for others)]:RULES:(ber cer der)' \
                         '*:FILE:_files'
                     ;;
                 encode)
@@ -99,7 +99,7 @@ _soqavise() {
                         '*'{-m,--module}'[Reads modules of ASN.1 from this file, too; may be repeated]:FILE:_files' \
                         '(-t --type)'{-t,--type}'[The type of the messages]:\[MODULE.\]TYPE:_soqavise_types' \
                         --example'[Prints JSON of this type to begin with, and reads nothing]:\[MODULE.\]TYPE:_soqavise_types' \
-                        '(-r --rules)'{-r,--rules}'[The encoding rules by which messages are written (without it, those of the type'\''s standard)]:RULES:(ber cer der)' \
+                        '(-r --rules)'{-r,--rules}'[The encoding rules by which messages are written (without it, BER for types of CMS, LDAP, PKCS12 and SNMP, DER for others)]:RULES:(ber cer der)' \
                         '(-l --lines)'{-l,--lines}'[Reads the JSON of a message from each line, and writes hexadecimal digits]' \
                         --errors'[The form in which --lines prints why a line is refused (without it, text)]:FORM:(text json)' \
                         '*:FILE:_files'
@@ -108,12 +108,12 @@ _soqavise() {
                     _arguments -s -S \
                         '(- *)'{-h,--help}'[Prints help]' \
                         '*'{-m,--module}'[Reads modules of ASN.1 from this file, too; may be repeated]:FILE:_files' \
-                        '(-t --type)'{-t,--type}'[The type of the messages (without it, it is found out)]:\[MODULE.\]TYPE:_soqavise_types' \
+                        '(-t --type)'{-t,--type}'[The type of the messages (without it, that of the label of PEM, or the first that reads a message)]:\[MODULE.\]TYPE:_soqavise_types' \
                         '(-l --lines)'{-l,--lines}'[Reads a message from each line, in hexadecimal or base64]' \
                         --errors'[The form in which --lines prints why a line is refused (without it, text)]:FORM:(text json)' \
                         --stream'[Reads several messages in a row, with nothing between them]' \
                         '(-i --input)'{-i,--input}'[The form of the input (without it, it is found out)]:FORM:(der pem hex base64)' \
-                        '(-r --rules)'{-r,--rules}'[The encoding rules by which messages are read (without it, those of the type'\''s standard)]:RULES:(ber cer der)' \
+                        '(-r --rules)'{-r,--rules}'[The encoding rules by which messages are read (without it, BER for types of CMS, LDAP, PKCS12 and SNMP, DER for others)]:RULES:(ber cer der)' \
                         '*:FILE:_files'
                     ;;
                 types)
@@ -133,12 +133,12 @@ _soqavise() {
                     _arguments -s -S \
                         '(- *)'{-h,--help}'[Prints help]' \
                         '*'{-m,--module}'[Reads modules of ASN.1 from this file, too; may be repeated]:FILE:_files' \
-                        '(-t --type)'{-t,--type}'[The type of the messages (without it, it is found out)]:\[MODULE.\]TYPE:_soqavise_types' \
+                        '(-t --type)'{-t,--type}'[The type of the messages (without it, that of the label of PEM, or the first that reads a message)]:\[MODULE.\]TYPE:_soqavise_types' \
                         '(-l --lines)'{-l,--lines}'[Reads a message from each line, in hexadecimal or base64]' \
                         --errors'[The form in which --lines prints why a line is refused (without it, text)]:FORM:(text json)' \
                         --stream'[Reads several messages in a row, with nothing between them]' \
                         '(-i --input)'{-i,--input}'[The form of the input (without it, it is found out)]:FORM:(der pem hex base64)' \
-                        '(-r --rules)'{-r,--rules}'[The encoding rules by which messages are read (without it, those of the type'\''s standard)]:RULES:(ber cer der)' \
+                        '(-r --rules)'{-r,--rules}'[The encoding rules by which messages are read (without it, BER for types of CMS, LDAP, PKCS12 and SNMP, DER for others)]:RULES:(ber cer der)' \
                         --json'[Prints values as JSON (X.697)]' \
                         ':PATH\[,PATH\]..: ' \
                         '*:FILE:_files'
@@ -147,12 +147,12 @@ _soqavise() {
                     _arguments -s -S \
                         '(- *)'{-h,--help}'[Prints help]' \
                         '*'{-m,--module}'[Reads modules of ASN.1 from this file, too; may be repeated]:FILE:_files' \
-                        '(-t --type)'{-t,--type}'[The type of the messages (without it, it is found out)]:\[MODULE.\]TYPE:_soqavise_types' \
+                        '(-t --type)'{-t,--type}'[The type of the messages (without it, that of the label of PEM, or the first that reads a message)]:\[MODULE.\]TYPE:_soqavise_types' \
                         '(-l --lines)'{-l,--lines}'[Reads a message from each line, in hexadecimal or base64]' \
                         --errors'[The form in which --lines prints why a line is refused (without it, text)]:FORM:(text json)' \
                         --stream'[Reads several messages in a row, with nothing between them]' \
                         '(-i --input)'{-i,--input}'[The form of the input (without it, it is found out)]:FORM:(der pem hex base64)' \
-                        '(-r --rules)'{-r,--rules}'[The encoding rules by which messages are read (without it, those of the type'\''s standard)]:RULES:(ber cer der)' \
+                        '(-r --rules)'{-r,--rules}'[The encoding rules by which messages are read (without it, BER for types of CMS, LDAP, PKCS12 and SNMP, DER for others)]:RULES:(ber cer der)' \
                         --csv'[Prints commas between the columns, and not tabs]' \
                         ':PATH\[,PATH\]..: ' \
                         '*:FILE:_files'

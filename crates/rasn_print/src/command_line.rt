@@ -103,21 +103,24 @@ impl Call {
 }
 
 /// The help of `--rules` of all commands that read messages.
-const READ: &str = "The encoding rules by which messages are read (without it, those of the type's \
-    standard)";
+const READ: &str =
+    "The encoding rules by which messages are read (without it, BER for types of CMS, \
+    LDAP, PKCS12 and SNMP, DER for others)";
 
 /// The help of `--rules` of `encode`.
-const WRITTEN: &str = "The encoding rules by which messages are written (without it, those of the \
-    type's standard)";
+const WRITTEN: &str = "The encoding rules by which messages are written (without it, BER for types \
+    of CMS, LDAP, PKCS12 and SNMP, DER for others)";
 
 /// The help of `--type` of all commands that read messages.
-const MESSAGES: &str = "The type of the messages (without it, it is found out)";
+const MESSAGES: &str =
+    "The type of the messages (without it, that of the label of PEM, or the first \
+    that reads a message)";
 
 /// What the exit status of the program says.
 const STATUSES: &str = "Exit status:\n  \
     0: no message is refused\n  \
     1: a message is refused or departs from DER, or a module of `types` or `generate` has a fault\n  \
-    2: the call is wrong, a type isn't known, or a file can't be read or written";
+    2: the call is wrong, a type isn't known or has a fault, or a file can't be read or written";
 
 /// Returns the program's command: its subcommands, options and help.
 ///
