@@ -45,127 +45,127 @@ _soqavise() {
                 show)
                     _arguments -s -S \
                         '(- *)'{-h,--help}'[Prints help]' \
-                        '*'{-m,--module}'[Reads modules of ASN.1 from this file, too; may be repeated]:FILE:_files' \
-                        '(-t --type)'{-t,--type}'[The type of the messages (without it, that of the label of PEM, or the first that reads a message)]:\[MODULE.\]TYPE:_soqavise_types' \
+                        '*'{-m+,--module=}'[Reads modules of ASN.1 from this file, too; may be repeated]:FILE:_files' \
+                        '(-t --type)'{-t+,--type=}'[The type of the messages (without it, that of the label of PEM, or the first that reads a message)]:[MODULE.]TYPE:_soqavise_types' \
                         '(-l --lines)'{-l,--lines}'[Reads a message from each line, in hexadecimal or base64]' \
-                        --errors'[The form in which --lines prints why a line is refused (without it, text)]:FORM:(text json)' \
+                        --errors='[The form in which --lines prints why a line is refused (without it, text)]:FORM:(text json)' \
                         --stream'[Reads several messages in a row, with nothing between them]' \
-                        '(-i --input)'{-i,--input}'[The form of the input (without it, it is found out)]:FORM:(der pem hex base64)' \
-                        '(-r --rules)'{-r,--rules}'[The encoding rules by which messages are read (without it, BER for types of CMS, LDAP, PKCS12 and SNMP, DER for others)]:RULES:(ber cer der)' \
-                        --color'[When names are in bold (without it, on a terminal where NO_COLOR isn'\''t set)]:WHEN:(auto always never)' \
+                        '(-i --input)'{-i+,--input=}'[The form of the input (without it, it is found out)]:FORM:(der pem hex base64)' \
+                        '(-r --rules)'{-r+,--rules=}'[The encoding rules by which messages are read (without it, BER for types of CMS, LDAP, PKCS12 and SNMP, DER for others)]:RULES:(ber cer der)' \
+                        --color='[When names are in bold (without it, on a terminal where NO_COLOR isn'\''t set)]:WHEN:(auto always never)' \
                         --offsets'[Prints where each part begins, and its lengths]' \
                         '*:FILE:_files'
                     ;;
                 check)
                     _arguments -s -S \
                         '(- *)'{-h,--help}'[Prints help]' \
-                        '*'{-m,--module}'[Reads modules of ASN.1 from this file, too; may be repeated]:FILE:_files' \
-                        '(-t --type)'{-t,--type}'[The type of the messages (without it, that of the label of PEM, or the first that reads a message)]:\[MODULE.\]TYPE:_soqavise_types' \
+                        '*'{-m+,--module=}'[Reads modules of ASN.1 from this file, too; may be repeated]:FILE:_files' \
+                        '(-t --type)'{-t+,--type=}'[The type of the messages (without it, that of the label of PEM, or the first that reads a message)]:[MODULE.]TYPE:_soqavise_types' \
                         '(-l --lines)'{-l,--lines}'[Reads a message from each line, in hexadecimal or base64]' \
-                        --errors'[The form in which --lines prints why a line is refused (without it, text)]:FORM:(text json)' \
+                        --errors='[The form in which --lines prints why a line is refused (without it, text)]:FORM:(text json)' \
                         --stream'[Reads several messages in a row, with nothing between them]' \
-                        '(-i --input)'{-i,--input}'[The form of the input (without it, it is found out)]:FORM:(der pem hex base64)' \
-                        '(-r --rules)'{-r,--rules}'[The encoding rules by which messages are read (without it, BER for types of CMS, LDAP, PKCS12 and SNMP, DER for others)]:RULES:(ber cer der)' \
+                        '(-i --input)'{-i+,--input=}'[The form of the input (without it, it is found out)]:FORM:(der pem hex base64)' \
+                        '(-r --rules)'{-r+,--rules=}'[The encoding rules by which messages are read (without it, BER for types of CMS, LDAP, PKCS12 and SNMP, DER for others)]:RULES:(ber cer der)' \
                         --outer'[Leaves out what is inside open types]' \
                         '*:FILE:_files'
                     ;;
                 lint)
                     _arguments -s -S \
                         '(- *)'{-h,--help}'[Prints help]' \
-                        '*'{-m,--module}'[Reads modules of ASN.1 from this file, too; may be repeated]:FILE:_files' \
-                        '(-t --type)'{-t,--type}'[The type of the messages (without it, that of the label of PEM, or the first that reads a message)]:\[MODULE.\]TYPE:_soqavise_types' \
+                        '*'{-m+,--module=}'[Reads modules of ASN.1 from this file, too; may be repeated]:FILE:_files' \
+                        '(-t --type)'{-t+,--type=}'[The type of the messages (without it, that of the label of PEM, or the first that reads a message)]:[MODULE.]TYPE:_soqavise_types' \
                         '(-l --lines)'{-l,--lines}'[Reads a message from each line, in hexadecimal or base64]' \
-                        --errors'[The form in which --lines prints why a line is refused (without it, text)]:FORM:(text json)' \
+                        --errors='[The form in which --lines prints why a line is refused (without it, text)]:FORM:(text json)' \
                         --stream'[Reads several messages in a row, with nothing between them]' \
-                        '(-i --input)'{-i,--input}'[The form of the input (without it, it is found out)]:FORM:(der pem hex base64)' \
+                        '(-i --input)'{-i+,--input=}'[The form of the input (without it, it is found out)]:FORM:(der pem hex base64)' \
                         --outer'[Leaves out what is inside open types]' \
                         '*:FILE:_files'
                     ;;
                 json)
                     _arguments -s -S \
                         '(- *)'{-h,--help}'[Prints help]' \
-                        '*'{-m,--module}'[Reads modules of ASN.1 from this file, too; may be repeated]:FILE:_files' \
-                        '(-t --type)'{-t,--type}'[The type of the messages (without it, that of the label of PEM, or the first that reads a message)]:\[MODULE.\]TYPE:_soqavise_types' \
+                        '*'{-m+,--module=}'[Reads modules of ASN.1 from this file, too; may be repeated]:FILE:_files' \
+                        '(-t --type)'{-t+,--type=}'[The type of the messages (without it, that of the label of PEM, or the first that reads a message)]:[MODULE.]TYPE:_soqavise_types' \
                         '(-l --lines)'{-l,--lines}'[Reads a message from each line, in hexadecimal or base64]' \
-                        --errors'[The form in which --lines prints why a line is refused (without it, text)]:FORM:(text json)' \
+                        --errors='[The form in which --lines prints why a line is refused (without it, text)]:FORM:(text json)' \
                         --stream'[Reads several messages in a row, with nothing between them]' \
-                        '(-i --input)'{-i,--input}'[The form of the input (without it, it is found out)]:FORM:(der pem hex base64)' \
-                        '(-r --rules)'{-r,--rules}'[The encoding rules by which messages are read (without it, BER for types of CMS, LDAP, PKCS12 and SNMP, DER for others)]:RULES:(ber cer der)' \
+                        '(-i --input)'{-i+,--input=}'[The form of the input (without it, it is found out)]:FORM:(der pem hex base64)' \
+                        '(-r --rules)'{-r+,--rules=}'[The encoding rules by which messages are read (without it, BER for types of CMS, LDAP, PKCS12 and SNMP, DER for others)]:RULES:(ber cer der)' \
                         '*:FILE:_files'
                     ;;
                 encode)
                     _arguments -s -S \
                         '(- *)'{-h,--help}'[Prints help]' \
-                        '*'{-m,--module}'[Reads modules of ASN.1 from this file, too; may be repeated]:FILE:_files' \
-                        '(-t --type)'{-t,--type}'[The type of the messages]:\[MODULE.\]TYPE:_soqavise_types' \
-                        --example'[Prints JSON of this type to begin with, and reads nothing]:\[MODULE.\]TYPE:_soqavise_types' \
-                        '(-r --rules)'{-r,--rules}'[The encoding rules by which messages are written (without it, BER for types of CMS, LDAP, PKCS12 and SNMP, DER for others)]:RULES:(ber cer der)' \
+                        '*'{-m+,--module=}'[Reads modules of ASN.1 from this file, too; may be repeated]:FILE:_files' \
+                        '(-t --type)'{-t+,--type=}'[The type of the messages]:[MODULE.]TYPE:_soqavise_types' \
+                        --example='[Prints JSON of this type to begin with, and reads nothing]:[MODULE.]TYPE:_soqavise_types' \
+                        '(-r --rules)'{-r+,--rules=}'[The encoding rules by which messages are written (without it, BER for types of CMS, LDAP, PKCS12 and SNMP, DER for others)]:RULES:(ber cer der)' \
                         '(-l --lines)'{-l,--lines}'[Reads the JSON of a message from each line, and writes hexadecimal digits]' \
-                        --errors'[The form in which --lines prints why a line is refused (without it, text)]:FORM:(text json)' \
+                        --errors='[The form in which --lines prints why a line is refused (without it, text)]:FORM:(text json)' \
                         '*:FILE:_files'
                     ;;
                 normalise)
                     _arguments -s -S \
                         '(- *)'{-h,--help}'[Prints help]' \
-                        '*'{-m,--module}'[Reads modules of ASN.1 from this file, too; may be repeated]:FILE:_files' \
-                        '(-t --type)'{-t,--type}'[The type of the messages (without it, that of the label of PEM, or the first that reads a message)]:\[MODULE.\]TYPE:_soqavise_types' \
+                        '*'{-m+,--module=}'[Reads modules of ASN.1 from this file, too; may be repeated]:FILE:_files' \
+                        '(-t --type)'{-t+,--type=}'[The type of the messages (without it, that of the label of PEM, or the first that reads a message)]:[MODULE.]TYPE:_soqavise_types' \
                         '(-l --lines)'{-l,--lines}'[Reads a message from each line, in hexadecimal or base64]' \
-                        --errors'[The form in which --lines prints why a line is refused (without it, text)]:FORM:(text json)' \
+                        --errors='[The form in which --lines prints why a line is refused (without it, text)]:FORM:(text json)' \
                         --stream'[Reads several messages in a row, with nothing between them]' \
-                        '(-i --input)'{-i,--input}'[The form of the input (without it, it is found out)]:FORM:(der pem hex base64)' \
-                        '(-r --rules)'{-r,--rules}'[The encoding rules by which messages are read (without it, BER for types of CMS, LDAP, PKCS12 and SNMP, DER for others)]:RULES:(ber cer der)' \
+                        '(-i --input)'{-i+,--input=}'[The form of the input (without it, it is found out)]:FORM:(der pem hex base64)' \
+                        '(-r --rules)'{-r+,--rules=}'[The encoding rules by which messages are read (without it, BER for types of CMS, LDAP, PKCS12 and SNMP, DER for others)]:RULES:(ber cer der)' \
                         '*:FILE:_files'
                     ;;
                 types)
                     _arguments -s -S \
                         '(- *)'{-h,--help}'[Prints help]' \
-                        '*'{-m,--module}'[Reads modules of ASN.1 from this file, too; may be repeated]:FILE:_files' \
-                        ':\[MODULE.\]TYPE:_soqavise_types'
+                        '*'{-m+,--module=}'[Reads modules of ASN.1 from this file, too; may be repeated]:FILE:_files' \
+                        ':[MODULE.]TYPE:_soqavise_types'
                     ;;
                 dump)
                     _arguments -s -S \
                         '(- *)'{-h,--help}'[Prints help]' \
-                        '*'{-m,--module}'[Reads modules of ASN.1 from this file, too; may be repeated]:FILE:_files' \
-                        '(-i --input)'{-i,--input}'[The form of the input (without it, it is found out)]:FORM:(der pem hex base64)' \
+                        '*'{-m+,--module=}'[Reads modules of ASN.1 from this file, too; may be repeated]:FILE:_files' \
+                        '(-i --input)'{-i+,--input=}'[The form of the input (without it, it is found out)]:FORM:(der pem hex base64)' \
                         '*:FILE:_files'
                     ;;
                 get)
                     _arguments -s -S \
                         '(- *)'{-h,--help}'[Prints help]' \
-                        '*'{-m,--module}'[Reads modules of ASN.1 from this file, too; may be repeated]:FILE:_files' \
-                        '(-t --type)'{-t,--type}'[The type of the messages (without it, that of the label of PEM, or the first that reads a message)]:\[MODULE.\]TYPE:_soqavise_types' \
+                        '*'{-m+,--module=}'[Reads modules of ASN.1 from this file, too; may be repeated]:FILE:_files' \
+                        '(-t --type)'{-t+,--type=}'[The type of the messages (without it, that of the label of PEM, or the first that reads a message)]:[MODULE.]TYPE:_soqavise_types' \
                         '(-l --lines)'{-l,--lines}'[Reads a message from each line, in hexadecimal or base64]' \
-                        --errors'[The form in which --lines prints why a line is refused (without it, text)]:FORM:(text json)' \
+                        --errors='[The form in which --lines prints why a line is refused (without it, text)]:FORM:(text json)' \
                         --stream'[Reads several messages in a row, with nothing between them]' \
-                        '(-i --input)'{-i,--input}'[The form of the input (without it, it is found out)]:FORM:(der pem hex base64)' \
-                        '(-r --rules)'{-r,--rules}'[The encoding rules by which messages are read (without it, BER for types of CMS, LDAP, PKCS12 and SNMP, DER for others)]:RULES:(ber cer der)' \
+                        '(-i --input)'{-i+,--input=}'[The form of the input (without it, it is found out)]:FORM:(der pem hex base64)' \
+                        '(-r --rules)'{-r+,--rules=}'[The encoding rules by which messages are read (without it, BER for types of CMS, LDAP, PKCS12 and SNMP, DER for others)]:RULES:(ber cer der)' \
                         --json'[Prints values as JSON (X.697)]' \
-                        ':PATH\[,PATH\]..: ' \
+                        ':PATH[,PATH]..: ' \
                         '*:FILE:_files'
                     ;;
                 table)
                     _arguments -s -S \
                         '(- *)'{-h,--help}'[Prints help]' \
-                        '*'{-m,--module}'[Reads modules of ASN.1 from this file, too; may be repeated]:FILE:_files' \
-                        '(-t --type)'{-t,--type}'[The type of the messages (without it, that of the label of PEM, or the first that reads a message)]:\[MODULE.\]TYPE:_soqavise_types' \
+                        '*'{-m+,--module=}'[Reads modules of ASN.1 from this file, too; may be repeated]:FILE:_files' \
+                        '(-t --type)'{-t+,--type=}'[The type of the messages (without it, that of the label of PEM, or the first that reads a message)]:[MODULE.]TYPE:_soqavise_types' \
                         '(-l --lines)'{-l,--lines}'[Reads a message from each line, in hexadecimal or base64]' \
-                        --errors'[The form in which --lines prints why a line is refused (without it, text)]:FORM:(text json)' \
+                        --errors='[The form in which --lines prints why a line is refused (without it, text)]:FORM:(text json)' \
                         --stream'[Reads several messages in a row, with nothing between them]' \
-                        '(-i --input)'{-i,--input}'[The form of the input (without it, it is found out)]:FORM:(der pem hex base64)' \
-                        '(-r --rules)'{-r,--rules}'[The encoding rules by which messages are read (without it, BER for types of CMS, LDAP, PKCS12 and SNMP, DER for others)]:RULES:(ber cer der)' \
+                        '(-i --input)'{-i+,--input=}'[The form of the input (without it, it is found out)]:FORM:(der pem hex base64)' \
+                        '(-r --rules)'{-r+,--rules=}'[The encoding rules by which messages are read (without it, BER for types of CMS, LDAP, PKCS12 and SNMP, DER for others)]:RULES:(ber cer der)' \
                         --csv'[Prints commas between the columns, and not tabs]' \
-                        ':PATH\[,PATH\]..: ' \
+                        ':PATH[,PATH]..: ' \
                         '*:FILE:_files'
                     ;;
                 generate)
                     _arguments -s -S \
                         '(- *)'{-h,--help}'[Prints help]' \
-                        --out'[The folder of the crate, which has its name; files of these types are overwritten]:FOLDER:_files -/' \
-                        '*'--message'[Says that TYPE is a whole message, which is read by RULES\: ber, cer or der; may be repeated]:TYPE=RULES:_soqavise_types' \
-                        '*'--also'[Names a file NAME.rt of the crate that is written by hand, as a public module; may be repeated]:NAME: ' \
-                        '*'--type'[Writes TYPE and what it is made of, instead of all types of the modules; may be repeated]:TYPE:_soqavise_types' \
-                        '*'--open'[Writes TYPE as an open type, whose values are octets; may be repeated]:TYPE:_soqavise_types' \
-                        '*'--from'[Takes the types of the modules in FILE from CRATE, which has been written of them; may be repeated]:CRATE=FILE:_files' \
+                        --out='[The folder of the crate, which has its name; files of these types are overwritten]:FOLDER:_files -/' \
+                        '*'--message='[Says that TYPE is a whole message, which is read by RULES\: ber, cer or der; may be repeated]:TYPE=RULES:_soqavise_types' \
+                        '*'--also='[Names a file NAME.rt of the crate that is written by hand, as a public module; may be repeated]:NAME: ' \
+                        '*'--type='[Writes TYPE and what it is made of, instead of all types of the modules; may be repeated]:TYPE:_soqavise_types' \
+                        '*'--open='[Writes TYPE as an open type, whose values are octets; may be repeated]:TYPE:_soqavise_types' \
+                        '*'--from='[Takes the types of the modules in FILE from CRATE, which has been written of them; may be repeated]:CRATE=FILE:_files' \
                         '*:FILE:_files'
                     ;;
                 help) _describe command commands ;;
