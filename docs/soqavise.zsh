@@ -45,7 +45,7 @@ _soqavise() {
                 show)
                     _arguments -s -S \
                         '(- *)'{-h,--help}'[Prints help]' \
-                        '*'{-m+,--module=}'[Reads modules of ASN.1 from this file, too; may be repeated]:FILE:_files' \
+                        '*'{-m+,--module=}'[Reads modules of ASN.1 from this file or folder, too; may be repeated]:FILE:_files' \
                         '(-t --type)'{-t+,--type=}'[The type of the messages (without it, that of the label of PEM, or the first that reads a message)]:[MODULE.]TYPE:_soqavise_types' \
                         '(-l --lines)'{-l,--lines}'[Reads a message from each line, in hexadecimal or base64]' \
                         --errors='[The form in which --lines prints why a line is refused (without it, text)]:FORM:(text json)' \
@@ -54,12 +54,14 @@ _soqavise() {
                         '(-r --rules)'{-r+,--rules=}'[The encoding rules by which messages are read (without it, BER for types of CMS, LDAP, PKCS12 and SNMP, DER for others)]:RULES:(ber cer der)' \
                         --color='[When names are in bold (without it, on a terminal where NO_COLOR isn'\''t set)]:WHEN:(auto always never)' \
                         --offsets'[Prints where each part begins, and its lengths]' \
+                        --full'[Prints all of octets that are cut otherwise]' \
+                        --json'[Prints the same as JSON, with all octets; `json` prints that of X.697]' \
                         '*:FILE:_files'
                     ;;
                 check)
                     _arguments -s -S \
                         '(- *)'{-h,--help}'[Prints help]' \
-                        '*'{-m+,--module=}'[Reads modules of ASN.1 from this file, too; may be repeated]:FILE:_files' \
+                        '*'{-m+,--module=}'[Reads modules of ASN.1 from this file or folder, too; may be repeated]:FILE:_files' \
                         '(-t --type)'{-t+,--type=}'[The type of the messages (without it, that of the label of PEM, or the first that reads a message)]:[MODULE.]TYPE:_soqavise_types' \
                         '(-l --lines)'{-l,--lines}'[Reads a message from each line, in hexadecimal or base64]' \
                         --errors='[The form in which --lines prints why a line is refused (without it, text)]:FORM:(text json)' \
@@ -72,7 +74,7 @@ _soqavise() {
                 lint)
                     _arguments -s -S \
                         '(- *)'{-h,--help}'[Prints help]' \
-                        '*'{-m+,--module=}'[Reads modules of ASN.1 from this file, too; may be repeated]:FILE:_files' \
+                        '*'{-m+,--module=}'[Reads modules of ASN.1 from this file or folder, too; may be repeated]:FILE:_files' \
                         '(-t --type)'{-t+,--type=}'[The type of the messages (without it, that of the label of PEM, or the first that reads a message)]:[MODULE.]TYPE:_soqavise_types' \
                         '(-l --lines)'{-l,--lines}'[Reads a message from each line, in hexadecimal or base64]' \
                         --errors='[The form in which --lines prints why a line is refused (without it, text)]:FORM:(text json)' \
@@ -84,7 +86,7 @@ _soqavise() {
                 json)
                     _arguments -s -S \
                         '(- *)'{-h,--help}'[Prints help]' \
-                        '*'{-m+,--module=}'[Reads modules of ASN.1 from this file, too; may be repeated]:FILE:_files' \
+                        '*'{-m+,--module=}'[Reads modules of ASN.1 from this file or folder, too; may be repeated]:FILE:_files' \
                         '(-t --type)'{-t+,--type=}'[The type of the messages (without it, that of the label of PEM, or the first that reads a message)]:[MODULE.]TYPE:_soqavise_types' \
                         '(-l --lines)'{-l,--lines}'[Reads a message from each line, in hexadecimal or base64]' \
                         --errors='[The form in which --lines prints why a line is refused (without it, text)]:FORM:(text json)' \
@@ -96,7 +98,7 @@ _soqavise() {
                 encode)
                     _arguments -s -S \
                         '(- *)'{-h,--help}'[Prints help]' \
-                        '*'{-m+,--module=}'[Reads modules of ASN.1 from this file, too; may be repeated]:FILE:_files' \
+                        '*'{-m+,--module=}'[Reads modules of ASN.1 from this file or folder, too; may be repeated]:FILE:_files' \
                         '(-t --type)'{-t+,--type=}'[The type of the messages]:[MODULE.]TYPE:_soqavise_types' \
                         --example='[Prints JSON of this type to begin with, and reads nothing]:[MODULE.]TYPE:_soqavise_types' \
                         '(-r --rules)'{-r+,--rules=}'[The encoding rules by which messages are written (without it, BER for types of CMS, LDAP, PKCS12 and SNMP, DER for others)]:RULES:(ber cer der)' \
@@ -107,7 +109,7 @@ _soqavise() {
                 normalise)
                     _arguments -s -S \
                         '(- *)'{-h,--help}'[Prints help]' \
-                        '*'{-m+,--module=}'[Reads modules of ASN.1 from this file, too; may be repeated]:FILE:_files' \
+                        '*'{-m+,--module=}'[Reads modules of ASN.1 from this file or folder, too; may be repeated]:FILE:_files' \
                         '(-t --type)'{-t+,--type=}'[The type of the messages (without it, that of the label of PEM, or the first that reads a message)]:[MODULE.]TYPE:_soqavise_types' \
                         '(-l --lines)'{-l,--lines}'[Reads a message from each line, in hexadecimal or base64]' \
                         --errors='[The form in which --lines prints why a line is refused (without it, text)]:FORM:(text json)' \
@@ -119,20 +121,20 @@ _soqavise() {
                 types)
                     _arguments -s -S \
                         '(- *)'{-h,--help}'[Prints help]' \
-                        '*'{-m+,--module=}'[Reads modules of ASN.1 from this file, too; may be repeated]:FILE:_files' \
+                        '*'{-m+,--module=}'[Reads modules of ASN.1 from this file or folder, too; may be repeated]:FILE:_files' \
                         ':[MODULE.]TYPE:_soqavise_types'
                     ;;
                 dump)
                     _arguments -s -S \
                         '(- *)'{-h,--help}'[Prints help]' \
-                        '*'{-m+,--module=}'[Reads modules of ASN.1 from this file, too; may be repeated]:FILE:_files' \
+                        '*'{-m+,--module=}'[Reads modules of ASN.1 from this file or folder, too; may be repeated]:FILE:_files' \
                         '(-i --input)'{-i+,--input=}'[The form of the input (without it, it is found out)]:FORM:(der pem hex base64)' \
                         '*:FILE:_files'
                     ;;
                 get)
                     _arguments -s -S \
                         '(- *)'{-h,--help}'[Prints help]' \
-                        '*'{-m+,--module=}'[Reads modules of ASN.1 from this file, too; may be repeated]:FILE:_files' \
+                        '*'{-m+,--module=}'[Reads modules of ASN.1 from this file or folder, too; may be repeated]:FILE:_files' \
                         '(-t --type)'{-t+,--type=}'[The type of the messages (without it, that of the label of PEM, or the first that reads a message)]:[MODULE.]TYPE:_soqavise_types' \
                         '(-l --lines)'{-l,--lines}'[Reads a message from each line, in hexadecimal or base64]' \
                         --errors='[The form in which --lines prints why a line is refused (without it, text)]:FORM:(text json)' \
@@ -146,7 +148,7 @@ _soqavise() {
                 table)
                     _arguments -s -S \
                         '(- *)'{-h,--help}'[Prints help]' \
-                        '*'{-m+,--module=}'[Reads modules of ASN.1 from this file, too; may be repeated]:FILE:_files' \
+                        '*'{-m+,--module=}'[Reads modules of ASN.1 from this file or folder, too; may be repeated]:FILE:_files' \
                         '(-t --type)'{-t+,--type=}'[The type of the messages (without it, that of the label of PEM, or the first that reads a message)]:[MODULE.]TYPE:_soqavise_types' \
                         '(-l --lines)'{-l,--lines}'[Reads a message from each line, in hexadecimal or base64]' \
                         --errors='[The form in which --lines prints why a line is refused (without it, text)]:FORM:(text json)' \

@@ -2,19 +2,26 @@
 use Rattle.std.proofs.Common.{◌≡◌, inl, inr, ℕ, zero, suc, List, [], ◌∷◌, Bool, true, Some, Vec, Global, refl, sym, ap, ◌∙◌, subst, rules}
 use Rattle.std.specs.Prelude.{slice_get, codes}
 use Rattle.rasn_types.specs.declared.types.tag.Tag.{Tag}
+use Rattle.rasn_types.specs.Tags.{in_universal}
+use Rattle.rasn_types.specs.Trees.{unconstrained}
 use Rattle.rasn_dynamic.specs.PathText.{AreStepsOf, steps_text}
 use Rattle.rasn_dynamic.specs.declared.steps.Step.{Step}
 use Rattle.rasn_dynamic.specs.declared.steps.Step.TheVariants.{Name, Index}
 use Rattle.rasn_schema.specs.declared.type_id.TypeId.{TypeId}
 use Rattle.rasn_schema.specs.declared.types.NamedNumber.{NamedNumber}
+use Rattle.rasn_schema.specs.declared.types.LeafKind.TheVariants.{Boolean as BooleanKind}
 use Rattle.rasn_schema.specs.declared.types.«Type».{«Type»}
+use Rattle.rasn_schema.specs.declared.types.«Type».TheVariants.{Leaf}
 use Rattle.rasn_schema.specs.declared.value.Value.{Value, Boolean, Absent}
 use Rattle.rasn_schema.specs.declared.view.View.{View}
-use Rattle.rasn_schema.specs.Held.{IsInside}
+use Rattle.rasn_schema.specs.Held.{IsInside, IsPartNamed}
 use Rattle.rasn_lint.specs.WorkedMessages.{a_boolean}
 use Rattle.rasn_print.specs.Queries.{IsStepTo, LeadTo, Holds, IsHeldIn, IsAskedFor}
 use Rattle.rasn_print.specs.WorkedQueries.{IsBooleanView, WorkedQueries}
 use Rattle.rasn_print.proofs.Queries.{within_itself, leads_nowhere}
+
+a_leaf : Vec NamedNumber Global → «Type»
+a_leaf names = Leaf BooleanKind (in_universal 1) unconstrained names
 
 module _ (names : Vec NamedNumber Global) (bit : Bool) where
   holds_none : (id : TypeId) (part : Value) → Holds (a_boolean names) 0 (Boolean bit) id part → ⊥
@@ -25,7 +32,8 @@ module _ (names : Vec NamedNumber Global) (bit : Bool) where
   no_step : (step : Step) (id : TypeId) (part : Value) → IsStepTo (a_boolean names) step 0 (Boolean bit) id part → ⊥
   unfolding IsInside
   no_step (Index index) id part (at, e) = cc
-  no_step (Name name) id part (ty, (zero, e), named) = cc
+  no_step (Name name) id part (ty, (zero, e), named) =
+      let f : a_leaf names ≡ ty = cc in subst (λ t. IsPartNamed t name.now (Boolean bit) id part) (sym f) named
   no_step (Name name) id part (ty, (suc n, (tag, inner, e, more)), named) = cc
 
   only_itself : (n m : ℕ) (w : Value) → IsHeldIn (a_boolean names) n 0 (Boolean bit) m w → (0 ≡ m) × (Boolean bit ≡ w)

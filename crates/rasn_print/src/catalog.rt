@@ -268,6 +268,7 @@ fn known_of<'text>(
         octets,
         bits,
         identifiers: own_identifiers(alloc, read)?,
+        is_cut: call.work == Work::Show && !call.is_full,
     })
 }
 

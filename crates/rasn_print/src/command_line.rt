@@ -29,17 +29,6 @@ pub enum Work {
     Table,
 }
 
-impl Work {
-    /// Returns whether what is printed for messages is messages, or values of them.
-    pub(crate) fn prints_data(self) -> bool {
-        match self {
-            Work::Json | Work::Encode | Work::Example | Work::Normalise | Work::Get | Work::Table =>
-                true,
-            Work::Show | Work::Check | Work::Lint | Work::Types | Work::Dump => false,
-        }
-    }
-}
-
 /// The form in which messages are handed over.
 #[derive(Clone, Copy, Debug, PartialEq, Eq)]
 pub enum InputForm {
@@ -78,13 +67,15 @@ pub struct Call {
     pub open_types: OpenTypes,
     /// Whether `show` prints where each part begins.
     pub has_offsets: bool,
+    /// Whether `show` prints all of long octets.
+    pub is_full: bool,
     /// Whether each line is a message.
     pub has_lines: bool,
     /// Prints JSON in place of a line that is refused, which says why.
     pub has_json_errors: bool,
     /// Reads messages that follow one another, with nothing between them.
     pub is_stream: bool,
-    /// Whether the values of parts are JSON.
+    /// Whether what is shown, or the values of parts, are JSON.
     pub has_json: bool,
     /// Whether the columns of a table have commas between them, and not tabs.
     pub is_csv: bool,
@@ -92,6 +83,21 @@ pub struct Call {
 }
 
 impl Call {
+    /// Returns whether what is printed for messages is messages, or values of them.
+    pub(crate) fn prints_data(&self) -> bool {
+        match self.work {
+            Work::Json | Work::Encode | Work::Example | Work::Normalise | Work::Get | Work::Table =>
+                true,
+            Work::Show => self.has_json,
+            Work::Check | Work::Lint | Work::Types | Work::Dump => false,
+        }
+    }
+
+    /// Returns whether each of several messages has its name before it.
+    pub(crate) fn has_headings(&self) -> bool {
+        self.work == Work::Show && !self.has_json
+    }
+
     /// Returns how JSON is laid out: in one line if a line holds a message.
     pub(crate) fn layout(&self) -> Layout {
         if self.has_lines {
@@ -154,7 +160,14 @@ fn show_command<'a>(alloc: Global) -> Result<Command<'a>, AllocError> {
             alloc,
             "offsets",
             "Prints where each part begins, and its lengths",
-        ))
+        ))?
+        .arg(flag(alloc, "full", "Prints all of octets that are cut otherwise"))?
+        .arg(flag(
+            alloc,
+            "json",
+            "Prints the same as JSON, with all octets; `json` prints that of X.697",
+        )
+        .conflicts_with("offsets")?)
 }
 
 fn check_command<'a>(alloc: Global) -> Result<Command<'a>, AllocError> {
@@ -314,7 +327,7 @@ fn modules<'a>(alloc: Global) -> Arg<'a> {
         .long("module")
         .value_name("FILE")
         .action(ArgAction::Append)
-        .help("Reads modules of ASN.1 from this file, too; may be repeated")
+        .help("Reads modules of ASN.1 from this file or folder, too; may be repeated")
 }
 
 fn rules<'a>(alloc: Global, help: &'a str) -> Arg<'a> {
@@ -401,6 +414,7 @@ pub fn call_of(alloc: Global, matches: &ArgMatches<'_>) -> Result<Option<Call>, 
         input: form_of(inner.get_str("input")),
         open_types: open_types_of(inner.get_flag("outer")),
         has_offsets: inner.get_flag("offsets"),
+        is_full: inner.get_flag("full"),
         has_lines: inner.get_flag("lines"),
         has_json_errors: inner.get_str("errors") == Some("json"),
         is_stream: inner.get_flag("stream"),

@@ -75,6 +75,8 @@ pub struct Known<'text> {
     pub(crate) bits: Option<TypeId>,
     /// The names of the identifiers of modules that aren't built in.
     pub(crate) identifiers: BTreeMap<ObjectIdentifier, &'text str>,
+    /// Whether long octets are cut where they are shown.
+    pub(crate) is_cut: bool,
 }
 
 impl Known<'_> {

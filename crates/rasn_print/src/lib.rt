@@ -8,6 +8,7 @@ mod command_line;
 mod dump;
 mod example;
 mod fault;
+mod fingerprint;
 mod identifier_names;
 mod identifiers;
 mod input;
@@ -31,6 +32,7 @@ mod standards;
 mod texts;
 mod types;
 mod unused;
+mod values;
 mod work;
 
 pub use catalog::{Catalog, modules_of, warnings_of};

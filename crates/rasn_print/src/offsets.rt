@@ -139,7 +139,7 @@ fn part_text(
     ty: &Type,
 ) -> Result<String, AllocError> {
     match decode(alloc, wanted.rule, wanted.schema, part.id, part.octets) {
-        Ok(value) => leaf_text(alloc, known, Some(ty), &value),
+        Ok(value) => leaf_text(alloc, known, Some(ty), &value, false),
         Err(error) if error.is_out_of_memory() => Err(AllocError),
         Err(_) => Hexadecimal::new(part.octets).to_string(alloc),
     }

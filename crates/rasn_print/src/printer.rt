@@ -3,20 +3,21 @@ ghost use Rattle.std.specs.Prelude.{◌≡◌, IfSome};
 ghost use Rattle.rasn_print.specs.Queries.{IsAround};
 
 pub(crate) mod large;
+pub(crate) mod object;
 
-use crate::dump::{End, Entries, Entry, primitive_text, push_entry, push_indent};
+use crate::dump::{End, Entries, Entry, are_entries, primitive_text, push_entry, push_indent};
 use crate::fault::CallFault;
 use crate::identifiers::{built_in_name, identifier_text};
 use crate::known::{Form, Known};
-use crate::leaf::{leaf_text, string_text};
+use crate::leaf::{digits_text, leaf_text, string_text};
 use crate::name::name_text;
 use crate::refusal_text::text_of;
 use crate::types::MessageType;
 use crate::work::Shown;
-use large::{Lines, write_message};
+use large::Lines;
 use rasn_dynamic::decode;
 use rasn_schema::{LeafKind, Schema, Type, TypeId, Value, View, part_name, part_type, type_at};
-use rasn_types::types::{Codec, Hexadecimal, ObjectIdentifier};
+use rasn_types::types::{Codec, ObjectIdentifier};
 use std::alloc::{AllocError, Global};
 use std::fmt;
 use std::io::Write;
@@ -93,7 +94,9 @@ pub(crate) fn write_large<W: Write + Drop>(
     octets: &[u8],
 ) -> Result<(), CallFault> {
     let place = LinePlace::of(alloc, known, shown.rule, shown.name.as_str());
-    write_message(lines, place, &known.schema, shown.root, octets)
+    large::write(lines, place, &known.schema, shown.root, octets)?;
+    lines.text.push_str(shown.end.as_str())?;
+    lines.flush(alloc)
 }
 
 /// Returns a value in a line, if it is one that holds no others, a name or an address: a character
@@ -115,9 +118,9 @@ pub(crate) fn line_text(
     }
     match type_at(inner.schema.types(), inner.type_id) {
         Some(ty @ (Type::Leaf { .. } | Type::Enumerated { .. })) => {
-            match string_text(alloc, ty, inner.value)? {
+            match string_text(alloc, Some(ty), inner.value)? {
                 Some(text) => Ok(Some(text)),
-                None => Ok(Some(leaf_text(alloc, known, Some(ty), inner.value)?)),
+                None => Ok(Some(leaf_text(alloc, known, Some(ty), inner.value, known.is_cut)?)),
             }
         }
         Some(
@@ -225,7 +228,13 @@ fn print_by(text: &mut String, place: LinePlace<'_>, view: &View<'_, '_>) -> App
             print_octets(text, place, value, Form::Bits)
         }
         Type::Leaf { .. } | Type::Enumerated { .. } => {
-            let shown = leaf_text(place.alloc, place.known, Some(ty), value)?;
+            let shown = leaf_text(
+                place.alloc,
+                place.known,
+                Some(ty),
+                value,
+                place.known.is_cut,
+            )?;
             push_line(text, place, &shown)
         }
         Type::Sequence { .. } | Type::Set { .. } | Type::SequenceOf { .. } | Type::SetOf { .. } =>
@@ -353,7 +362,11 @@ fn print_held(
         if form == Form::Open {
             return print_encoding(text, place, octets);
         }
-        return push_line(text, place, &leaf_text(alloc, known, None, value)?);
+        return push_line(
+            text,
+            place,
+            &leaf_text(alloc, known, None, value, known.is_cut)?,
+        );
     };
     match decode(alloc, place.rule, &known.schema, id, octets) {
         Ok(value) => {
@@ -366,7 +379,7 @@ fn print_held(
         }
         Err(error) if error.is_out_of_memory() => Err(AllocError),
         Err(error) => {
-            let shown = Hexadecimal::new(octets);
+            let shown = digits_text(alloc, octets, known.is_cut)?;
             let cause = text_of(alloc, &error, octets, End::Input)?;
             let shown = format!(in alloc; "{shown} (not of {hint}: {cause})")?;
             push_line(text, place, &shown)
@@ -387,25 +400,14 @@ fn print_additions(text: &mut String, place: LinePlace<'_>, value: &Value<'_>) -
     Ok(())
 }
 
-/// Returns whether the header of each encoding of octets can be read.
-fn are_entries(alloc: Global, octets: &[u8]) -> Result<bool, AllocError> {
-    let mut entries = Entries::new(alloc, octets);
-    // Each encoding has an octet of its own.
-    for _ in octets {
-        match entries.next() {
-            Ok(Some(_)) => {}
-            Ok(None) => return Ok(true),
-            Err(error) if error.is_out_of_memory() => return Err(AllocError),
-            Err(_) => return Ok(false),
-        }
-    }
-    Ok(true)
-}
-
 /// Appends the lines of an encoding of a type that isn't known.
 fn print_encoding(text: &mut String, place: LinePlace<'_>, octets: &[u8]) -> Appended {
-    if !are_entries(place.alloc, octets)? {
-        return push_line(text, place, &Hexadecimal::new(octets));
+    let Ok(is_whole) = are_entries(place.alloc, octets) else {
+        return Err(AllocError);
+    };
+    if !is_whole {
+        let shown = digits_text(place.alloc, octets, place.known.is_cut)?;
+        return push_line(text, place, &shown);
     }
     let mut entries = Entries::new(place.alloc, octets);
     for _ in octets {

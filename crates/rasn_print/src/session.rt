@@ -14,9 +14,11 @@ use crate::printer::large::Lines;
 use crate::printer::write_large;
 use crate::query::{cell_text, row_text};
 use crate::reason::Reason;
+use crate::values::first_value;
 use crate::work::{
     Answer, Context, Input, Shown, answer_of_first, answer_to, is_of_first, printed,
 };
+use json::Scratch;
 use rasn_text::{Block, Escaping, visible};
 use std::alloc::{AllocError, Global};
 use std::io::{self, BufRead, ErrorKind, Write};
@@ -81,16 +83,44 @@ impl<W: Write + Drop, E: Write + Drop> Session<'_, W, E> {
             Some(text) => text.as_slice(),
             None => without_mark(octets),
         };
-        let is_headed = self.call.work == Work::Show && self.call.files.len() > 1;
+        let is_headed = self.call.has_headings() && self.call.files.len() > 1;
         match form_of(alloc, self.call, text)? {
             Form::Pem(blocks) => self.pem(name, text, blocks.as_slice(), is_headed),
             Form::Text(octets) => self.octets(name, &octets, true, is_headed),
             Form::Wrong(reason) => self.refuse(name, &reason),
-            Form::Octets if self.call.work == Work::Encode => {
-                self.message(name, text, None, false, is_headed)
-            }
+            Form::Octets if self.call.work == Work::Encode => self.values(name, text),
             Form::Octets => self.octets(name, octets, false, is_headed),
         }
+    }
+
+    /// Works on each of the JSON values that follow one another in a text. Those after the first are
+    /// named by the line in which they begin.
+    fn values(&mut self, name: &str, octets: &[u8]) -> Result<(), CallFault> {
+        let alloc = self.alloc;
+        let text = str::from_utf8(octets).unwrap_or("");
+        if text.is_empty() {
+            return self.message(name, &Input::of(octets), false);
+        }
+        let mut scratch = Scratch::new(alloc);
+        let (mut start, mut line) = (0usize, 1usize);
+        // Each value has an octet of its own.
+        for _ in octets {
+            let (before, rest) = text.split_at_checked(start).unwrap_or((text, ""));
+            if rest.is_empty() {
+                break;
+            }
+            let value = first_value(rest, &mut scratch)?;
+            let input = Input {
+                before,
+                ..Input::of(value.as_bytes())
+            };
+            let named = format!(in alloc; "{name}, line {line}")?;
+            let name = if start == 0 { name } else { named.as_str() };
+            self.message(name, &input, false)?;
+            start = start.saturating_add(value.len());
+            line = line.saturating_add(value.matches('\n').count());
+        }
+        Ok(())
     }
 
     /// Works on the message that octets are or, if several are in a row, on each of them and on what
@@ -103,10 +133,14 @@ impl<W: Write + Drop, E: Write + Drop> Session<'_, W, E> {
         is_headed: bool,
     ) -> Result<(), CallFault> {
         if !self.call.is_stream {
-            return self.message(name, octets, None, is_text, is_headed);
+            let input = Input {
+                is_text,
+                ..Input::of(octets)
+            };
+            return self.message(name, &input, is_headed);
         }
         let alloc = self.alloc;
-        let is_headed = self.call.work == Work::Show;
+        let is_headed = self.call.has_headings();
         let mut rest = octets;
         // Each encoding has an octet of its own.
         for _ in octets {
@@ -116,7 +150,11 @@ impl<W: Write + Drop, E: Write + Drop> Session<'_, W, E> {
             let offset = octets.len().saturating_sub(rest.len());
             let name = format!(in alloc; "{name}, byte {offset}")?;
             let (first, after) = first_encoding(alloc, rest);
-            self.message(name.as_str(), first, None, is_text, is_headed)?;
+            let input = Input {
+                is_text,
+                ..Input::of(first)
+            };
+            self.message(name.as_str(), &input, is_headed)?;
             rest = after;
         }
         Ok(())
@@ -132,7 +170,7 @@ impl<W: Write + Drop, E: Write + Drop> Session<'_, W, E> {
         is_headed: bool,
     ) -> Result<(), CallFault> {
         let alloc = self.alloc;
-        let is_headed = is_headed || (self.call.work == Work::Show && blocks.len() > 1);
+        let is_headed = is_headed || (self.call.has_headings() && blocks.len() > 1);
         if blocks.is_empty() {
             return self.refuse(name, &"no line -----BEGIN LABEL-----");
         }
@@ -143,10 +181,10 @@ impl<W: Write + Drop, E: Write + Drop> Session<'_, W, E> {
             match &block.contents {
                 Ok(octets) => {
                     let (first, trust) = self.parted(label, octets);
-                    self.message(name.as_str(), first, Some(label), false, is_headed)?;
+                    self.message(name.as_str(), &Input::labelled(first, label), is_headed)?;
                     if !trust.is_empty() {
                         let name = format!(in alloc; "{name}, byte {}", first.len())?;
-                        self.message(name.as_str(), trust, Some(TRUST), false, is_headed)?;
+                        self.message(name.as_str(), &Input::labelled(trust, TRUST), is_headed)?;
                     }
                 }
                 Err(error) => {
@@ -172,25 +210,12 @@ impl<W: Write + Drop, E: Write + Drop> Session<'_, W, E> {
         first_encoding(self.alloc, octets)
     }
 
-    /// Works on a message, which may be in a block of PEM with this label or handed over as text, and
-    /// writes its name before it if that is wanted.
-    fn message(
-        &mut self,
-        name: &str,
-        octets: &[u8],
-        label: Option<&str>,
-        is_text: bool,
-        is_headed: bool,
-    ) -> Result<(), CallFault> {
+    /// Works on a message, and writes its name before it if that is wanted.
+    fn message(&mut self, name: &str, input: &Input<'_>, is_headed: bool) -> Result<(), CallFault> {
         if self.call.work == Work::Dump {
-            return self.dump(name, octets);
+            return self.dump(name, input.octets);
         }
-        let input = Input {
-            octets,
-            label,
-            is_text,
-        };
-        match self.answer(&input)? {
+        match self.answer(input)? {
             Answer::Done(octets) => {
                 if self.call.work == Work::Table {
                     self.write_cell(name)?;
@@ -200,13 +225,13 @@ impl<W: Write + Drop, E: Write + Drop> Session<'_, W, E> {
             }
             Answer::Large(shown) => {
                 self.write_name(name, is_headed)?;
-                self.write_large(&shown, octets)
+                self.write_large(&shown, input.octets)
             }
             Answer::Departures(reasons) => self.write_departures(name, reasons.as_slice()),
             Answer::Refused(reason) => {
                 let mut text = reason.to_line(self.alloc)?;
-                let is_octets = label.is_none() && !is_text;
-                if is_octets && self.call.work != Work::Encode && is_plain_text(octets) {
+                let is_octets = input.label.is_none() && !input.is_text;
+                if is_octets && self.call.work != Work::Encode && is_plain_text(input.octets) {
                     text.push_str(NO_FORM)?;
                 }
                 self.refuse(name, &text)
@@ -325,12 +350,12 @@ impl<W: Write + Drop, E: Write + Drop> Session<'_, W, E> {
     /// # Errors
     /// As `flush`.
     pub fn example(&mut self) -> Result<(), CallFault> {
-        self.message("example", &[], None, true, false)
+        self.message("example", &Input::of(&[]), false)
     }
 
     /// Prints the encodings of octets, each as soon as it is read.
     fn dump(&mut self, name: &str, octets: &[u8]) -> Result<(), CallFault> {
-        let mut entries = Entries::new(self.alloc, octets);
+        let mut entries = Entries::opened(self.alloc, octets);
         // Each encoding has an octet of its own.
         for _ in octets {
             match entries.next() {
@@ -400,9 +425,8 @@ impl<W: Write + Drop, E: Write + Drop> Session<'_, W, E> {
     /// JSON.
     fn line_message(&mut self, name: &str, number: usize, octets: &[u8]) -> Result<(), CallFault> {
         let input = Input {
-            octets,
-            label: None,
             is_text: true,
+            ..Input::of(octets)
         };
         match self.answer(&input)? {
             Answer::Done(text) if text.is_empty() => self.write(b"ok\n"),
@@ -445,7 +469,7 @@ impl<W: Write + Drop, E: Write + Drop> Session<'_, W, E> {
             return writeln!(self.output, "{text}").map_err(CallFault::of_write);
         }
         let text = lines.as_slice().join(alloc, "; ")?;
-        if self.call.work.prints_data() {
+        if self.call.prints_data() {
             let name = format!(in alloc; "{name}, line {number}")?;
             return self.refuse(name.as_str(), &text);
         }

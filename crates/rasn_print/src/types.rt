@@ -12,6 +12,8 @@ use std::alloc::{AllocError, Global};
 #[derive(Clone, Copy)]
 pub struct MessageType<'a> {
     pub name: &'a str,
+    /// The name of its module.
+    pub module: &'a str,
     pub rule: Codec,
     pub schema: &'a Schema,
     pub root: TypeId,
@@ -61,6 +63,7 @@ impl<'a> MessageType<'a> {
         };
         MessageType {
             name: of.name,
+            module: of.module,
             rule,
             schema,
             root: of.root,

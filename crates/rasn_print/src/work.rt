@@ -8,18 +8,22 @@ ghost use Rattle.rasn_print.specs.Verdicts.{IsVerdict, IsDerVerdict, IsRefusal, 
 use crate::command_line::{Call, Work};
 use crate::dump::{End, Entries, deeper_at, entry_of};
 use crate::example::example_of;
+use crate::fingerprint::fingerprint_line;
 use crate::known::{Candidates, Known};
 use crate::offsets::offsets_text;
 use crate::printer::large::LARGE;
 use crate::printer::line_text;
+use crate::printer::object::object_text;
 use crate::query::{part_at, row_text};
 use crate::reading::{check, read_alone, remainder, show};
 use crate::reason::{ADVICE, Reason, path_of};
 use crate::refusal_text::{extra_from, text_of};
+use crate::similar::meant_by;
 use crate::types::{KnownType, MessageType};
+use crate::values::error_after;
 use base64::engine::general_purpose::STANDARD;
 use rasn_dynamic::{Refusal, WriteError, decode};
-use rasn_json::{JsonError, Layout, encode, to_json};
+use rasn_json::{EncodeJsonError, JsonError, Layout, encode, to_json};
 use rasn_lint::{Departure, LintError, OpenTypes, check as check_der, lint};
 use rasn_schema::{Type, TypeId, Value, View, part_type, type_at};
 use rasn_text::{Escaping, is_hidden, visible};
@@ -52,6 +56,28 @@ pub struct Input<'a> {
     pub label: Option<&'a str>,
     /// Whether it was in hexadecimal or base64.
     pub is_text: bool,
+    /// The text that is before it, if it is JSON.
+    pub before: &'a str,
+}
+
+impl<'a> Input<'a> {
+    /// Returns octets that are in no block of PEM and were no text.
+    pub(crate) fn of(octets: &'a [u8]) -> Input<'a> {
+        Input {
+            octets,
+            label: None,
+            is_text: false,
+            before: "",
+        }
+    }
+
+    /// Returns the octets of a block of PEM with this label.
+    pub(crate) fn labelled(octets: &'a [u8], label: &'a str) -> Input<'a> {
+        Input {
+            label: Some(label),
+            ..Input::of(octets)
+        }
+    }
 }
 
 /// What is printed for a message.
@@ -75,6 +101,8 @@ pub struct Shown {
     pub(crate) rule: Codec,
     /// The name of the type.
     pub(crate) name: String,
+    /// The lines after those of the value.
+    pub(crate) end: String,
 }
 
 /// What is printed, unless memory runs out.
@@ -446,6 +474,9 @@ impl Message<'_, '_> {
     /// Returns it as text or the parts of it, in colour if that is asked for.
     fn shown(&self) -> Answered {
         let (alloc, call) = (self.context.alloc, self.context.call);
+        if call.has_json {
+            return self.shown_as_json();
+        }
         if self.octets.len() >= LARGE && !call.has_offsets {
             return self.shown_in_parts();
         }
@@ -456,8 +487,26 @@ impl Message<'_, '_> {
         };
         match shown {
             Ok(text) => {
+                let mut text = text;
+                if !call.has_offsets {
+                    let line = fingerprint_line(alloc, self.wanted, self.octets)?;
+                    text.push_str(line.as_str())?;
+                }
                 let text = lines_shown(alloc, self.context.is_colored, text)?;
                 Ok(Answer::Done(text.into_bytes()))
+            }
+            Err(refusal) => self.refused(refusal),
+        }
+    }
+
+    /// Returns what is shown of it as JSON: in one line if a line holds a message.
+    fn shown_as_json(&self) -> Answered {
+        let (context, wanted) = (self.context, self.wanted);
+        match read_alone(context.alloc, wanted, self.octets) {
+            Ok(value) => {
+                let layout = context.call.layout();
+                let text = object_text(context.alloc, context.known, wanted, &value, layout)?;
+                json_line(context.alloc, text)
             }
             Err(refusal) => self.refused(refusal),
         }
@@ -472,6 +521,7 @@ impl Message<'_, '_> {
                 root: wanted.root,
                 rule: wanted.rule,
                 name: String::from_str(context.alloc, wanted.name)?,
+                end: fingerprint_line(context.alloc, wanted, self.octets)?,
             })),
             Err(refusal) => self.refused(refusal),
         }
@@ -552,11 +602,7 @@ impl Message<'_, '_> {
     fn json_of(&self, value: &Value<'_>) -> Answered {
         let (alloc, (_, schema, root)) = (self.context.alloc, self.wanted.parts());
         match to_json(alloc, schema, root, value, self.context.call.layout()) {
-            Ok(text) => {
-                let mut text = printed(alloc, Escaping::Json, text)?;
-                text.push('\n')?;
-                Ok(Answer::Done(text.into_bytes()))
-            }
+            Ok(text) => json_line(alloc, text),
             Err(error) if error.is_out_of_memory() => Err(AllocError),
             Err(error) => refused_for(alloc, &error),
         }
@@ -583,6 +629,11 @@ impl Message<'_, '_> {
         match encode(alloc, rule, schema, root, text) {
             Ok(octets) => in_form(alloc, self.input, octets),
             Err(error) if error.is_out_of_memory() => Err(AllocError),
+            Err(EncodeJsonError::Json(error)) => {
+                let meant = meant_by(alloc, schema.types(), root, &error)?;
+                let error = error_after(self.input.before, error);
+                refused_for(alloc, &format!(in alloc; "{error}{meant}")?)
+            }
             Err(error) => refused_for(alloc, &error),
         }
     }
@@ -613,6 +664,13 @@ impl Message<'_, '_> {
             }
         }
     }
+}
+
+/// Returns JSON as it is printed, with the end of its line.
+fn json_line(alloc: Global, text: String) -> Answered {
+    let mut text = printed(alloc, Escaping::Json, text)?;
+    text.push('\n')?;
+    Ok(Answer::Done(text.into_bytes()))
 }
 
 /// Returns whether memory ran out.

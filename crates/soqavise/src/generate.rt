@@ -1,7 +1,8 @@
 //! The subcommand `generate`, which writes a crate of typed Rattle for the types of modules.
 
 use crate::words::{is_marked, name_shown};
-use crate::{NO_NAME, REFUSED, USAGE, read_text, sources_of, unreadable, unreadable_as};
+use crate::module_files::read_text;
+use crate::{NO_NAME, REFUSED, USAGE, sources_of, unreadable, unreadable_as};
 use clap::{Arg, ArgAction, ArgMatches, Command};
 use rasn_compiler::{Modules, Source};
 use rasn_print::{CallFault, modules_of};
@@ -130,7 +131,7 @@ fn run_options(
             return unreadable_as(rt, file, &NO_NAME);
         }
         match read_text(rt, *file) {
-            Ok(text) => texts.push((*file, text))?,
+            Ok(text) => texts.push((String::from_str(rt.alloc(), *file)?, text))?,
             Err(error) => return unreadable(rt, file, &error),
         }
     }
@@ -140,10 +141,10 @@ fn run_options(
 
 /// Reads the files of modules whose types other crates have, as the values of `--from` say, and
 /// writes the crate of the modules of these texts.
-fn run_files<'a>(
+fn run_files(
     rt: &HostRuntime,
-    texts: Vec<(&'a str, String)>,
-    values: &'a [&'a str],
+    texts: Vec<(String, String)>,
+    values: &[&str],
     options: Options,
     folder: &str,
 ) -> Result<u8, CallFault> {
@@ -157,7 +158,7 @@ fn run_files<'a>(
         match read_text(rt, file) {
             Ok(text) => {
                 add_from(&mut options, crate_name, file, text.as_str())?;
-                texts.push((file, text))?;
+                texts.push((String::from_str(rt.alloc(), file)?, text))?;
             }
             Err(error) => return unreadable(rt, file, &error),
         }
@@ -187,9 +188,9 @@ fn crate_name(folder: &str) -> &str {
 
 /// Writes the crate of the modules of these texts, the first ones, as many as `wanted`, unless they
 /// have a fault, which is printed.
-fn run_texts<'a>(
+fn run_texts(
     rt: &HostRuntime,
-    texts: Vec<(&'a str, String)>,
+    texts: Vec<(String, String)>,
     wanted: usize,
     options: &Options,
     folder: &str,

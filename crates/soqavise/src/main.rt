@@ -2,20 +2,22 @@
 #![tactic(auto)]
 
 mod generate;
+mod module_files;
 mod words;
 
 use clap::Command;
 use generate::{generate_command, run_generate};
+use module_files::{module_files, read_text};
 use rasn_compiler::{Modules, Source};
 use rasn_print::{
     Call, CallFault, Catalog, ColorChoice, Session, Work, call_of, command, modules_of,
     print_notation, print_types, warnings_of,
 };
 use std::alloc::{AllocError, Global};
-use std::fs::{self, File};
+use std::fs::File;
 use std::io::{BufReader, BufWriter, ErrorKind, IsTerminal, Read, Write};
 use std::process::ExitCode;
-use std::{env, fmt, io, str};
+use std::{env, fmt, io};
 use words::{is_marked, name_shown, words_of, words_shown};
 
 /// The exit status of a program that refuses a message.
@@ -26,6 +28,9 @@ const USAGE: u8 = 2;
 
 /// Why a file isn't opened whose name isn't UTF-8.
 const NO_NAME: &str = "the name isn't UTF-8";
+
+/// Why a folder has no modules.
+const NO_MODULES: &str = "no file in it has a name that ends in .asn1 or .asn";
 
 /// What is said of the name that a command had until 0.31.
 const RENAMED: &str = "the command is called `generate`: what it writes is Rattle";
@@ -95,15 +100,14 @@ fn refuse_words(rt: &HostRuntime, words: &[String], error: clap::Error) -> Resul
 /// Returns the texts of modules as sources.
 fn sources_of<'a>(
     alloc: Global,
-    texts: &'a [(&'a str, String)],
+    texts: &'a [(String, String)],
 ) -> Result<Vec<Source<'a>>, AllocError> {
     let mut sources = Vec::new(alloc);
     for (name, text) in texts {
-        let source = Source {
-            name,
+        sources.push(Source {
+            name: name.as_str(),
             text: text.as_str(),
-        };
-        sources.push(source)?;
+        })?;
     }
     Ok(sources)
 }
@@ -113,12 +117,9 @@ fn run_call(rt: &HostRuntime, call: &Call) -> Result<u8, CallFault> {
     let alloc = rt.alloc();
     let mut texts = Vec::new(alloc);
     for name in &call.modules {
-        if is_marked(name) {
-            return unreadable_as(rt, name, &NO_NAME);
-        }
-        match read_text(rt, name.as_str()) {
-            Ok(text) => texts.push((name.as_str(), text))?,
-            Err(error) => return unreadable(rt, name, &error),
+        let status = push_texts(rt, name.as_str(), &mut texts)?;
+        if status != 0 {
+            return Ok(status);
         }
     }
     if texts.is_empty() && call.work != Work::Types {
@@ -136,20 +137,28 @@ fn run_call(rt: &HostRuntime, call: &Call) -> Result<u8, CallFault> {
     run_work(rt, call, Catalog::new(alloc, Some(&read)))
 }
 
-/// Reads a file of modules. Octets that aren't UTF-8 are characters of ISO 8859-1, which a module
-/// has in comments at most.
-pub(crate) fn read_text(rt: &HostRuntime, name: &str) -> io::Result<String> {
-    let octets = fs::read(rt, name)?;
-    let mut text = String::new(rt.alloc());
-    match str::from_utf8(&octets) {
-        Ok(read) => text.push_str(read)?,
-        Err(_) => {
-            for octet in &octets {
-                text.push(char::from(*octet))?;
-            }
+/// Appends the text of a file of modules, or of those in a folder, with their names. Returns the exit
+/// status.
+fn push_texts(
+    rt: &HostRuntime,
+    name: &str,
+    texts: &mut Vec<(String, String)>,
+) -> Result<u8, CallFault> {
+    if is_marked(name) {
+        return unreadable_as(rt, name, &NO_NAME);
+    }
+    let files = match module_files(rt, name) {
+        Ok(files) if files.is_empty() => return unreadable_as(rt, name, &NO_MODULES),
+        Ok(files) => files,
+        Err(error) => return unreadable(rt, name, &error),
+    };
+    for file in files {
+        match read_text(rt, file.as_str()) {
+            Ok(text) => texts.push((file, text))?,
+            Err(error) => return unreadable(rt, file.as_str(), &error),
         }
     }
-    Ok(text)
+    Ok(0)
 }
 
 /// Prints the types of the modules, or one of them. Returns whether each has a schema.
@@ -291,13 +300,15 @@ fn unreadable(rt: &HostRuntime, name: &str, error: &io::Error) -> Result<u8, Cal
     unreadable_as(rt, name, error)
 }
 
-/// Prints that a file can't be read for this reason.
+/// Prints that a file can't be read for this reason, without the number that the system has for it.
 fn unreadable_as<T: fmt::Display>(
     rt: &HostRuntime,
     name: &str,
     reason: &T,
 ) -> Result<u8, CallFault> {
     let name = name_shown(rt.alloc(), name)?;
+    let reason = reason.to_string(rt.alloc())?;
+    let (reason, _) = reason.as_str().split_once(" (os error ").unwrap_or((reason.as_str(), ""));
     eprintln!(rt; "{name}: cannot read: {reason}").map_err(CallFault::of_write)?;
     Ok(USAGE)
 }

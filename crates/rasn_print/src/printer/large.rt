@@ -39,7 +39,7 @@ pub(crate) struct Lines<'w, W: Write + Drop> {
 
 impl<W: Write + Drop> Lines<'_, W> {
     /// Writes the lines that haven't been written yet.
-    fn flush(&mut self, alloc: Global) -> Result<(), CallFault> {
+    pub(super) fn flush(&mut self, alloc: Global) -> Result<(), CallFault> {
         let text = mem::replace(&mut self.text, String::new(alloc));
         let shown = lines_shown(alloc, self.is_colored, text)?;
         self.output
@@ -48,25 +48,13 @@ impl<W: Write + Drop> Lines<'_, W> {
     }
 }
 
-/// Writes a message, which is of this type of a schema, as lines, the first of which has the title of
-/// its place.
+/// Writes the lines of a value of this type, which octets encode, the first of which has the title of
+/// its place. Some of them may still be kept: see `Lines::flush`.
 ///
 /// # Errors
 /// `Write` or `Closed` if they can't be written, `Memory` if memory runs out.
-pub(super) fn write_message<W: Write + Drop>(
-    lines: &mut Lines<'_, W>,
-    place: LinePlace<'_>,
-    schema: &Schema,
-    id: TypeId,
-    octets: &[u8],
-) -> Result<(), CallFault> {
-    write(lines, place, schema, id, octets)?;
-    lines.flush(place.alloc)
-}
-
-/// Writes the lines of a value of this type, which octets encode.
 #[cycle(write)]
-fn write<W: Write + Drop>(
+pub(super) fn write<W: Write + Drop>(
     lines: &mut Lines<'_, W>,
     place: LinePlace<'_>,
     schema: &Schema,
