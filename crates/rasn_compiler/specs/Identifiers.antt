@@ -1,5 +1,5 @@
 -- Identifiers that modules assign to names (X.680 16).
-use Rattle.std.specs.Prelude.{◌≡◌, ⊤, ⊥, ℕ, List, Some, slice_get}
+use Rattle.std.specs.Prelude.{◌≡◌, ℕ, List, Some, slice_get}
 use Rattle.std.specs.List.{All}
 use Rattle.rasn_compiler.specs.declared.tree.Module.{Module}
 use Rattle.rasn_compiler.specs.declared.tree.Assignment.{Assignment}
@@ -9,7 +9,7 @@ use Rattle.rasn_compiler.specs.declared.identifiers.NamedIdentifier.{NamedIdenti
 
 -- A value, and not a type, a class, a set or a macro.
 abbrev pub IsValue : Assigned → Type 0
-IsValue (Value of value) = ⊤
+IsValue (Value t v) = Unit {0}
 IsValue _ = ⊥
 
 -- The module assigns a value to the name.
