@@ -20,9 +20,6 @@ use Rattle.rasn_print.specs.Queries.{IsStepTo, LeadTo, Holds, IsHeldIn, IsAskedF
 use Rattle.rasn_print.specs.WorkedQueries.{IsBooleanView, WorkedQueries}
 use Rattle.rasn_print.proofs.Queries.{within_itself, leads_nowhere}
 
-a_leaf : Vec NamedNumber Global → «Type»
-a_leaf names = Leaf BooleanKind (in_universal 1) unconstrained names
-
 module _ (names : Vec NamedNumber Global) (bit : Bool) where
   holds_none : (id : TypeId) (part : Value) → Holds (a_boolean names) 0 (Boolean bit) id part → ⊥
   holds_none id part (inl (inl (tag, e, f))) = cc
@@ -33,7 +30,9 @@ module _ (names : Vec NamedNumber Global) (bit : Bool) where
   unfolding IsInside
   no_step (Index index) id part (at, e) = cc
   no_step (Name name) id part (ty, (zero, e), named) =
-      let f : a_leaf names ≡ ty = cc in subst (λ t. IsPartNamed t name.now (Boolean bit) id part) (sym f) named
+      let g : Some ty ≡ Some (Leaf BooleanKind (in_universal 1) unconstrained names) = e.0 in
+      let f : ty ≡ Leaf BooleanKind (in_universal 1) unconstrained names = cc in
+      subst (λ t. IsPartNamed t name.now (Boolean bit) id part) f named
   no_step (Name name) id part (ty, (suc n, (tag, inner, e, more)), named) = cc
 
   only_itself : (n m : ℕ) (w : Value) → IsHeldIn (a_boolean names) n 0 (Boolean bit) m w → (0 ≡ m) × (Boolean bit ≡ w)

@@ -63,16 +63,16 @@ fn lines_of(alloc: Global, faults: &[Fault<'_>]) -> Result<String, CallFault> {
 
 /// The types of a call that were resolved so far.
 #[derive(Drop)]
-pub struct Catalog<'text> {
+pub struct Catalog<'read, 'text> {
     /// The modules that the call names and those of this repository, if it names some.
-    read: Option<&'text Modules<'text>>,
+    read: Option<&'read Modules<'text>>,
     known: Vec<Known<'text>>,
 }
 
-impl<'text> Catalog<'text> {
+impl<'read, 'text> Catalog<'read, 'text> {
     /// Returns a catalog of the types of these modules, or without them of those of this repository,
     /// which are read when a message may be of them.
-    pub fn new(alloc: Global, read: Option<&'text Modules<'text>>) -> Catalog<'text>
+    pub fn new(alloc: Global, read: Option<&'read Modules<'text>>) -> Catalog<'read, 'text>
         ensures { result.known.items ≡ [] }
     {
         Catalog {

@@ -138,61 +138,53 @@ impl<'input> Entries<'input> {
         if self.around.is_empty() && self.rest().is_empty() {
             return Ok(None);
         }
-        let mut entry = entry_of(self.alloc, self.rest(), self.around.len(), self.at)?;
-        let after = self.at.saturating_add(entry.octets.len());
-        let before = if entry.is_constructed {
-            Some(0)
+        let entry = entry_of(self.alloc, self.rest(), self.around.len(), self.at)?;
+        if entry.is_constructed {
+            self.enter(&entry, 0)?;
         } else {
-            self.before_held(&entry)?
-        };
-        let Some(before) = before else {
-            self.at = after;
-            return Ok(Some(entry));
-        };
-        entry.is_opened = !entry.is_constructed;
-        self.enter(&entry, after)?;
-        let inner = self.at.saturating_add(entry.header_len);
-        self.at = inner.saturating_add(before);
+            self.at = self.at.saturating_add(entry.octets.len());
+        }
         Ok(Some(entry))
     }
 
-    /// Goes into an encoding, which ends there unless its length is indefinite.
-    fn enter(&mut self, entry: &Entry<'_>, after: usize) -> Result<(), DecodeError> {
+    /// Returns the next encoding, as `next` does. If it is a string that is opened, the one that it
+    /// holds comes next.
+    ///
+    /// # Errors
+    /// As `next`.
+    pub(crate) fn next_opened(&mut self) -> Result<Option<Entry<'input>>, DecodeError> {
+        let Some(mut entry) = self.next()? else {
+            return Ok(None);
+        };
+        if entry.is_constructed || self.strings == 0 {
+            return Ok(Some(entry));
+        }
+        if let Some(before) = before_held(self.alloc, &entry)? {
+            entry.is_opened = true;
+            self.strings = self.strings.saturating_sub(1);
+            self.enter(&entry, before)?;
+        }
+        Ok(Some(entry))
+    }
+
+    /// Goes into an encoding, of whose contents so many octets are before the next encoding. It ends
+    /// with its octets unless its length is indefinite.
+    fn enter(&mut self, entry: &Entry<'_>, before: usize) -> Result<(), DecodeError> {
         let around = Around {
             end: if entry.is_indefinite {
                 self.innermost().end
             } else {
-                after
+                entry.offset.saturating_add(entry.octets.len())
             },
             is_indefinite: entry.is_indefinite,
             is_opened: entry.is_opened,
         };
-        if entry.is_opened {
-            self.strings = self.strings.saturating_sub(1);
-        }
+        let inner = entry.offset.saturating_add(entry.header_len);
+        self.at = inner.saturating_add(before);
         match self.around.push(around) {
             Ok(()) => Ok(()),
             Err(_) => Err(out_of_memory()),
         }
-    }
-
-    /// Returns how many octets of the contents of a primitive encoding are before an encoding of a
-    /// universal type that fills the rest of them, if it is a string that is opened.
-    fn before_held(&self, entry: &Entry<'input>) -> Result<Option<usize>, DecodeError> {
-        if self.strings == 0 {
-            return Ok(None);
-        }
-        let contents = entry.octets.get(entry.header_len..).unwrap_or(&[]);
-        let (before, held) = match contents.split_first() {
-            Some((0, held)) if entry.tag == Tag::BIT_STRING => (1, held),
-            Some(_) if entry.tag == Tag::OCTET_STRING => (0, contents),
-            _ => return Ok(None),
-        };
-        Ok(if is_encoding(self.alloc, held)? {
-            Some(before)
-        } else {
-            None
-        })
     }
 
     /// Goes on to the encoding that begins so many octets after the start, and isn't before the next
@@ -288,6 +280,22 @@ pub(crate) fn first_encoding(alloc: Global, octets: &[u8]) -> (&[u8], &[u8]) {
         }
         Err(_) => (octets, &[]),
     }
+}
+
+/// Returns how many octets of the contents of a primitive encoding are before an encoding of a
+/// universal type that fills the rest of them, if it is an OCTET STRING or a BIT STRING that holds one.
+fn before_held(alloc: Global, entry: &Entry<'_>) -> Result<Option<usize>, DecodeError> {
+    let contents = entry.octets.get(entry.header_len..).unwrap_or(&[]);
+    let (before, held) = match contents.split_first() {
+        Some((0, held)) if entry.tag == Tag::BIT_STRING => (1, held),
+        Some(_) if entry.tag == Tag::OCTET_STRING => (0, contents),
+        Some(_) | None => return Ok(None),
+    };
+    Ok(if is_encoding(alloc, held)? {
+        Some(before)
+    } else {
+        None
+    })
 }
 
 /// Returns whether octets are one encoding, of a universal type, in which each header can be read.

@@ -29,10 +29,10 @@ const NO_FORM: &str = "; the input is text, but neither PEM, hexadecimal digits 
 
 /// Processes messages, and prints the results.
 #[derive(Drop)]
-pub struct Session<'a, W: Write + Drop, E: Write + Drop> {
+pub struct Session<'call, 'read, 'text, W: Write + Drop, E: Write + Drop> {
     pub alloc: Global,
-    pub call: &'a Call,
-    pub catalog: Catalog<'a>,
+    pub call: &'call Call,
+    pub catalog: Catalog<'read, 'text>,
     /// Whether names are in bold.
     pub is_colored: bool,
     pub output: W,
@@ -41,7 +41,7 @@ pub struct Session<'a, W: Write + Drop, E: Write + Drop> {
     pub is_refused: bool,
 }
 
-impl<W: Write + Drop, E: Write + Drop> Session<'_, W, E> {
+impl<W: Write + Drop, E: Write + Drop> Session<'_, '_, '_, W, E> {
     /// Writes octets.
     fn write(&mut self, octets: &[u8]) -> Result<(), CallFault>
         ensures { self.new.is_refused ≡ self.old.is_refused }
@@ -110,6 +110,10 @@ impl<W: Write + Drop, E: Write + Drop> Session<'_, W, E> {
                 break;
             }
             let value = first_value(rest, &mut scratch)?;
+            if value.len() == rest.len() {
+                // The last value needs none of it.
+                scratch = Scratch::new(alloc);
+            }
             let input = Input {
                 before,
                 ..Input::of(value.as_bytes())
@@ -358,7 +362,7 @@ impl<W: Write + Drop, E: Write + Drop> Session<'_, W, E> {
         let mut entries = Entries::opened(self.alloc, octets);
         // Each encoding has an octet of its own.
         for _ in octets {
-            match entries.next() {
+            match entries.next_opened() {
                 Ok(Some(entry)) => self.write_entry(&entry)?,
                 Ok(None) => return Ok(()),
                 Err(error) => {

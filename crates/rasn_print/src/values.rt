@@ -27,9 +27,10 @@ pub(crate) fn first_value<'text>(
 /// Returns an error of JSON with its place in a text in which this is before the JSON.
 pub(crate) fn error_after(before: &str, error: JsonError) -> JsonError {
     let mut error = error;
-    if let JsonErrorKind::Syntax { line, column }
-    | JsonErrorKind::TextTooDeep { line, column } = &mut error.kind
-    {
+    if let JsonErrorKind::Syntax { line, column } = &mut error.kind {
+        (*line, *column) = place_after(before, *line, *column);
+    }
+    if let JsonErrorKind::TextTooDeep { line, column } = &mut error.kind {
         (*line, *column) = place_after(before, *line, *column);
     }
     error

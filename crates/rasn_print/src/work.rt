@@ -629,12 +629,20 @@ impl Message<'_, '_> {
         match encode(alloc, rule, schema, root, text) {
             Ok(octets) => in_form(alloc, self.input, octets),
             Err(error) if error.is_out_of_memory() => Err(AllocError),
-            Err(EncodeJsonError::Json(error)) => {
-                let meant = meant_by(alloc, schema.types(), root, &error)?;
+            Err(error) => self.not_encoded(error),
+        }
+    }
+
+    /// Returns why JSON isn't encoded, with the name that was probably meant by one that isn't known.
+    fn not_encoded(&self, error: EncodeJsonError) -> Answered {
+        let (alloc, wanted) = (self.context.alloc, self.wanted);
+        match error {
+            EncodeJsonError::Json(error) => {
+                let meant = meant_by(alloc, wanted.schema.types(), wanted.root, &error)?;
                 let error = error_after(self.input.before, error);
                 refused_for(alloc, &format!(in alloc; "{error}{meant}")?)
             }
-            Err(error) => refused_for(alloc, &error),
+            EncodeJsonError::Encode(error) => refused_for(alloc, &error),
         }
     }
 

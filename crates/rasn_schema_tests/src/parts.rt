@@ -178,12 +178,17 @@ fn parts_are_gone_over(rt: HostRuntime) {
 /// A part of a message: its path, offset, type and length.
 type Listed = (&'static [usize], usize, usize, usize);
 
+/// Returns whether a path is the one that is expected.
+fn is_path(path: &[usize], expected: &[usize]) -> bool {
+    path == expected
+}
+
 /// Returns whether the next part of a message is this one.
 fn is_next(alloc: Global, parts: &mut MessageParts<'_>, expected: &Listed) -> bool {
     let (path, offset, id, len) = expected;
     match parts.next(alloc) {
         Ok(Some(part)) => {
-            parts.path.as_slice() == *path
+            is_path(&parts.path, path)
                 && part.offset == *offset
                 && part.id == TypeId(*id)
                 && part.octets.len() == *len

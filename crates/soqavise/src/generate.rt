@@ -1,7 +1,7 @@
 //! The subcommand `generate`, which writes a crate of typed Rattle for the types of modules.
 
-use crate::words::{is_marked, name_shown};
 use crate::module_files::read_text;
+use crate::words::{is_marked, name_shown};
 use crate::{NO_NAME, REFUSED, USAGE, sources_of, unreadable, unreadable_as};
 use clap::{Arg, ArgAction, ArgMatches, Command};
 use rasn_compiler::{Modules, Source};

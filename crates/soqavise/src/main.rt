@@ -127,14 +127,24 @@ fn run_call(rt: &HostRuntime, call: &Call) -> Result<u8, CallFault> {
     }
     let sources = sources_of(alloc, texts.as_slice())?;
     let (read, faults) = modules_of(alloc, sources.as_slice())?;
+    run_modules(rt, call, &read, faults.as_str())
+}
+
+/// Runs a call with these modules, whose faults are printed.
+fn run_modules(
+    rt: &HostRuntime,
+    call: &Call,
+    read: &Modules<'_>,
+    faults: &str,
+) -> Result<u8, CallFault> {
     eprint!(rt; "{faults}").map_err(CallFault::of_write)?;
     if call.work == Work::Types {
-        let warnings = warnings_of(alloc, &read)?;
+        let warnings = warnings_of(rt.alloc(), read)?;
         eprint!(rt; "{warnings}").map_err(CallFault::of_write)?;
-        let are_whole = run_types(rt, call, &read)? && faults.is_empty();
+        let are_whole = run_types(rt, call, read)? && faults.is_empty();
         return Ok(if are_whole { 0 } else { REFUSED });
     }
-    run_work(rt, call, Catalog::new(alloc, Some(&read)))
+    run_work(rt, call, Catalog::new(rt.alloc(), Some(read)))
 }
 
 /// Appends the text of a file of modules, or of those in a folder, with their names. Returns the exit
@@ -186,7 +196,7 @@ fn is_colored(rt: &HostRuntime, color: ColorChoice) -> bool {
 }
 
 /// Runs the work of a call on each file, or on standard input without one. Returns the exit status.
-fn run_work(rt: &HostRuntime, call: &Call, catalog: Catalog<'_>) -> Result<u8, CallFault> {
+fn run_work(rt: &HostRuntime, call: &Call, catalog: Catalog<'_, '_>) -> Result<u8, CallFault> {
     let alloc = rt.alloc();
     let mut catalog = catalog;
     catalog.resolve_named(alloc, call)?;
@@ -211,7 +221,7 @@ fn run_work(rt: &HostRuntime, call: &Call, catalog: Catalog<'_>) -> Result<u8, C
 /// Works on each file, or on standard input without one. Returns the exit status.
 fn run_files<W: Write + Drop, E: Write + Drop>(
     rt: &HostRuntime,
-    session: &mut Session<'_, W, E>,
+    session: &mut Session<'_, '_, '_, W, E>,
 ) -> Result<u8, CallFault> {
     let call = session.call;
     let files = call.files.as_slice();
@@ -242,7 +252,7 @@ fn run_files<W: Write + Drop, E: Write + Drop>(
 fn file_source<W: Write + Drop, E: Write + Drop>(
     rt: &HostRuntime,
     name: &str,
-    session: &mut Session<'_, W, E>,
+    session: &mut Session<'_, '_, '_, W, E>,
 ) -> Result<u8, CallFault> {
     if name == STDIN {
         return source(rt, "standard input", rt.stdin(), session);
@@ -273,7 +283,7 @@ fn source<R: Read + Drop, W: Write + Drop, E: Write + Drop>(
     rt: &HostRuntime,
     name: &str,
     reader: R,
-    session: &mut Session<'_, W, E>,
+    session: &mut Session<'_, '_, '_, W, E>,
 ) -> Result<u8, CallFault> {
     let alloc = rt.alloc();
     if session.call.has_lines {
@@ -308,7 +318,10 @@ fn unreadable_as<T: fmt::Display>(
 ) -> Result<u8, CallFault> {
     let name = name_shown(rt.alloc(), name)?;
     let reason = reason.to_string(rt.alloc())?;
-    let (reason, _) = reason.as_str().split_once(" (os error ").unwrap_or((reason.as_str(), ""));
+    let (reason, _) = reason
+        .as_str()
+        .split_once(" (os error ")
+        .unwrap_or((reason.as_str(), ""));
     eprintln!(rt; "{name}: cannot read: {reason}").map_err(CallFault::of_write)?;
     Ok(USAGE)
 }

@@ -1,8 +1,7 @@
 //! Files of modules.
 
 use std::alloc::{AllocError, Global};
-use std::str;
-use std::{fs, io};
+use std::{fs, io, str};
 
 /// The ends of the names of files of modules in a folder.
 const ENDS: [&str; 2] = [".asn1", ".asn"];

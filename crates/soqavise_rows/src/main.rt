@@ -78,7 +78,7 @@ fn answer_to_words(
     input: &[u8],
 ) -> Result<String, CallFault> {
     match command(alloc)?.try_get_matches_from(words) {
-        Ok(matches) => answer_to_matches(alloc, read, matches, input),
+        Ok(matches) => answer_to_matches(alloc, read, &matches, input),
         Err(error) => Ok(format!(in alloc; "{error}")?),
     }
 }
@@ -87,15 +87,25 @@ fn answer_to_words(
 fn answer_to_matches(
     alloc: Global,
     read: &Modules<'_>,
-    matches: ArgMatches<'_>,
+    matches: &ArgMatches<'_>,
     input: &[u8],
 ) -> Result<String, CallFault> {
-    let Some(call) = call_of(alloc, &matches)? else {
-        return Ok(String::from_str(alloc, "is no call")?);
-    };
+    match call_of(alloc, matches)? {
+        Some(call) => answer_to_call(alloc, read, &call, input),
+        None => Ok(String::from_str(alloc, "is no call")?),
+    }
+}
+
+/// Returns what a call prints for an input.
+fn answer_to_call(
+    alloc: Global,
+    read: &Modules<'_>,
+    call: &Call,
+    input: &[u8],
+) -> Result<String, CallFault> {
     let mut catalog = Catalog::new(alloc, Some(read));
-    catalog.resolve_named(alloc, &call)?;
-    run(alloc, &call, catalog, input)
+    catalog.resolve_named(alloc, call)?;
+    run(alloc, call, catalog, input)
 }
 
 /// Returns a text in which `\n` is a line feed, `\e` an escape character and `\m` a byte order mark,
@@ -111,11 +121,11 @@ fn unquoted(alloc: Global, text: &str) -> Result<String, AllocError> {
     Ok(plain)
 }
 
-/// Returns what a call prints for an input.
+/// Returns what a call prints for an input, by a catalog of its types.
 fn run(
     alloc: Global,
     call: &Call,
-    catalog: Catalog<'_>,
+    catalog: Catalog<'_, '_>,
     input: &[u8],
 ) -> Result<String, CallFault> {
     let mut session = Session {
@@ -127,17 +137,7 @@ fn run(
         refusals: Vec::new(alloc),
         is_refused: false,
     };
-    session.begin()?;
-    if call.work == Work::Example {
-        session.example()?;
-    } else if call.has_lines {
-        session.lines(
-            "input",
-            BufReader::new(alloc, input).map_err(CallFault::of_write)?,
-        )?;
-    } else {
-        session.input("input", input)?;
-    }
+    run_input(&mut session, input)?;
     let Session {
         output,
         refusals,
@@ -148,4 +148,22 @@ fn run(
     let refused = str::from_utf8(&refusals).unwrap_or("other octets");
     let status = if is_refused { "status 1\n" } else { "" };
     Ok(format!(in alloc; "{shown}{refused}{status}")?)
+}
+
+/// Works on an input.
+fn run_input(
+    session: &mut Session<'_, '_, '_, Vec<u8>, Vec<u8>>,
+    input: &[u8],
+) -> Result<(), CallFault> {
+    session.begin()?;
+    if session.call.work == Work::Example {
+        return session.example();
+    }
+    if !session.call.has_lines {
+        return session.input("input", input);
+    }
+    match BufReader::new(session.alloc, input) {
+        Ok(reader) => session.lines("input", reader),
+        Err(error) => Err(CallFault::of_write(error)),
+    }
 }

@@ -75,11 +75,11 @@ fn put(out: &mut Writer, place: LinePlace<'_>, view: &View<'_, '_>) -> Put {
         levels: place.levels - 1,
         ..place
     };
-    let mut title = place.title;
+    let mut title = String::from_str(place.alloc, place.title)?;
     let mut inner = view.schema.view(view.type_id, view.value);
     let mut objects = 0usize;
     for _ in 0..usize::MAX {
-        if let Some(shown) = short_text(place, title, &inner)? {
+        if let Some(shown) = short_text(place, title.as_str(), &inner)? {
             out.string(shown.as_str())?;
             return end_objects(out, objects);
         }
@@ -89,7 +89,7 @@ fn put(out: &mut Writer, place: LinePlace<'_>, view: &View<'_, '_>) -> Put {
         if !name.is_empty() {
             out.begin_object()?;
             out.key(name)?;
-            title = name;
+            title = String::from_str(place.alloc, name)?;
             objects = objects.saturating_add(1);
         }
         inner = next;
