@@ -7,6 +7,7 @@ mod component;
 mod fault;
 mod given;
 mod hint;
+mod identifiers;
 mod imports;
 mod lexer;
 mod library;
@@ -28,6 +29,7 @@ mod warnings;
 mod words;
 
 pub use fault::{Fault, Problem, Stop};
+pub use identifiers::NamedIdentifier;
 pub use library::{Library, Root, TypeRef, Unresolved};
 pub use modules::{Modules, Source};
 pub use notation::{Notation, notation_of};

@@ -13,10 +13,12 @@ use crate::similar::most_similar;
 use crate::texts::Texts;
 use crate::types::KnownType;
 use crate::unused::unused_types;
-use rasn_compiler::{Fault, Library, Modules, Root, Source, TypeRef};
+use rasn_compiler::{Fault, Library, Modules, NamedIdentifier, Root, Source, TypeRef};
 use rasn_schema::TypeId;
 use rasn_text::{Escaping, visible};
+use rasn_types::types::ObjectIdentifier;
 use std::alloc::{AllocError, Global};
+use std::collections::BTreeMap;
 
 /// The name of the module of what is in open types.
 pub(crate) const CONTENTS: &str = "Contents";
@@ -265,8 +267,28 @@ fn known_of<'text>(
         open,
         octets,
         bits,
+        identifiers: own_identifiers(alloc, read)?,
         is_cut: call.work == Work::Show && !call.is_full,
     })
+}
+
+/// Returns the names of the identifiers of modules that aren't built in: the first of each.
+fn own_identifiers<'text>(
+    alloc: Global,
+    read: &Modules<'text>,
+) -> Result<BTreeMap<ObjectIdentifier, &'text str>, AllocError> {
+    let mut names = BTreeMap::new(alloc);
+    for found in read.identifiers(alloc)? {
+        let NamedIdentifier {
+            name,
+            identifier,
+            ..
+        } = found;
+        if !names.contains_key(&identifier) {
+            names.insert(identifier, name)?;
+        }
+    }
+    Ok(names)
 }
 
 /// Returns a type of the modules, if it is one of the library.

@@ -111,7 +111,24 @@ impl Call {
 }
 
 /// The help of `--rules` of all commands that read messages.
-const READ: &str = "The encoding rules by which messages are read";
+const READ: &str =
+    "The encoding rules by which messages are read (without it, BER for types of CMS, \
+    LDAP, PKCS12 and SNMP, DER for others)";
+
+/// The help of `--rules` of `encode`.
+const WRITTEN: &str = "The encoding rules by which messages are written (without it, BER for types \
+    of CMS, LDAP, PKCS12 and SNMP, DER for others)";
+
+/// The help of `--type` of all commands that read messages.
+const MESSAGES: &str =
+    "The type of the messages (without it, that of the label of PEM, or the first \
+    that reads a message)";
+
+/// What the exit status of the program says.
+const STATUSES: &str = "Exit status:\n  \
+    0: no message is refused\n  \
+    1: a message is refused or departs from DER, or a module of `types` or `generate` has a fault\n  \
+    2: the call is wrong, a type isn't known or has a fault, or a file can't be read or written";
 
 /// Returns the program's command: its subcommands, options and help.
 ///
@@ -122,6 +139,7 @@ pub fn command<'a>(alloc: Global) -> Result<Command<'a>, AllocError> {
         .bin_name("soqavise")?
         .version("0.31.0")
         .about("Shows, checks and converts messages of ASN.1 in BER, CER and DER")
+        .after_help(STATUSES)
         .subcommand_required(true)
         .subcommand(show_command(alloc)?)?
         .subcommand(check_command(alloc)?)?
@@ -196,7 +214,7 @@ fn encode_command<'a>(alloc: Global) -> Result<Command<'a>, AllocError> {
         .about("Writes the messages whose JSON is read")
         .after_help("Example: soqavise encode --type Certificate cert.json")
         .arg(modules(alloc))?
-        .arg(type_name(alloc).required_unless_present("example")?)?
+        .arg(type_name(alloc, "The type of the messages").required_unless_present("example")?)?
         .arg(
             Arg::new(alloc, "example")
                 .long("example")
@@ -206,7 +224,7 @@ fn encode_command<'a>(alloc: Global) -> Result<Command<'a>, AllocError> {
                 .conflicts_with("file")?
                 .help("Prints JSON of this type to begin with, and reads nothing"),
         )?
-        .arg(rules(alloc, "The encoding rules by which messages are written"))?
+        .arg(rules(alloc, WRITTEN))?
         .arg(lines(
             alloc,
             "Reads the JSON of a message from each line, and writes hexadecimal digits",
@@ -239,6 +257,7 @@ fn dump_command<'a>(alloc: Global) -> Result<Command<'a>, AllocError> {
     Command::new(alloc, "dump")
         .about("Prints headers, lengths and values of any BER, without a type")
         .after_help("Example: soqavise dump message.ber")
+        .arg(modules(alloc))?
         .arg(input(alloc))?
         .arg(files(alloc))
 }
@@ -287,7 +306,7 @@ fn messages<'a>(alloc: Global, name: &'a str, about: &'a str) -> Result<Command<
 fn with_messages<'a>(alloc: Global, command: Command<'a>) -> Result<Command<'a>, AllocError> {
     command
         .arg(modules(alloc))?
-        .arg(type_name(alloc))?
+        .arg(type_name(alloc, MESSAGES))?
         .arg(
             lines(
                 alloc,
@@ -306,12 +325,12 @@ fn with_messages<'a>(alloc: Global, command: Command<'a>) -> Result<Command<'a>,
         .arg(files(alloc))
 }
 
-fn type_name<'a>(alloc: Global) -> Arg<'a> {
+fn type_name<'a>(alloc: Global, help: &'a str) -> Arg<'a> {
     Arg::new(alloc, "type")
         .short('t')
         .long("type")
         .value_name("[MODULE.]TYPE")
-        .help("The type of the messages")
+        .help(help)
 }
 
 fn modules<'a>(alloc: Global) -> Arg<'a> {
@@ -339,7 +358,7 @@ fn input<'a>(alloc: Global) -> Arg<'a> {
         .long("input")
         .value_name("FORM")
         .value_parser(ValueParser::from(["der", "pem", "hex", "base64"].as_slice()))
-        .help("The form of the input, which is found out otherwise")
+        .help("The form of the input (without it, it is found out)")
 }
 
 fn errors<'a>(alloc: Global) -> Result<Arg<'a>, AllocError> {
@@ -347,7 +366,7 @@ fn errors<'a>(alloc: Global) -> Result<Arg<'a>, AllocError> {
         .long("errors")
         .value_name("FORM")
         .value_parser(ValueParser::from(["text", "json"].as_slice()))
-        .help("The form in which --lines prints why a line is refused")
+        .help("The form in which --lines prints why a line is refused (without it, text)")
         .requires_arg("lines")
 }
 
@@ -356,7 +375,7 @@ fn color<'a>(alloc: Global) -> Arg<'a> {
         .long("color")
         .value_name("WHEN")
         .value_parser(ValueParser::from(["auto", "always", "never"].as_slice()))
-        .help("When names are in bold: on a terminal, unless this says otherwise")
+        .help("When names are in bold (without it, on a terminal where NO_COLOR isn't set)")
 }
 
 fn files<'a>(alloc: Global) -> Arg<'a> {

@@ -447,7 +447,7 @@ pub(crate) fn primitive_text(
     entry: &Entry<'_>,
 ) -> Result<String, AllocError> {
     if let Some(Value::Chosen(_, value)) = &known.universal_value(alloc, entry.octets)? {
-        return leaf_text(alloc, None, value, known.is_cut);
+        return leaf_text(alloc, known, None, value, known.is_cut);
     }
     let contents = entry.octets.get(entry.header_len..).unwrap_or(&[]);
     octets_text(alloc, contents, known.is_cut)

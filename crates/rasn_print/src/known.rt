@@ -1,10 +1,12 @@
 //! Types of what is in open types and in strings whose octets are an encoding.
 
+use crate::identifiers::built_in_name;
 use crate::types::KnownType;
 use rasn_dynamic::decode;
 use rasn_schema::{Schema, Type, TypeId, Value, index_named, part_type, type_at};
-use rasn_types::types::Codec;
+use rasn_types::types::{Codec, ObjectIdentifier};
 use std::alloc::{AllocError, Global};
+use std::collections::BTreeMap;
 
 /// Where octets are whose type an identifier beside them says.
 #[derive(Clone, Copy, Debug, PartialEq, Eq)]
@@ -71,11 +73,21 @@ pub struct Known<'text> {
     pub(crate) open: Option<TypeId>,
     pub(crate) octets: Option<TypeId>,
     pub(crate) bits: Option<TypeId>,
+    /// The names of the identifiers of modules that aren't built in.
+    pub(crate) identifiers: BTreeMap<ObjectIdentifier, &'text str>,
     /// Whether long octets are cut where they are shown.
     pub(crate) is_cut: bool,
 }
 
 impl Known<'_> {
+    /// Returns the name of an identifier: that of a module that isn't built in, or else of one that is.
+    pub(crate) fn identifier_name(&self, identifier: &ObjectIdentifier) -> Option<&str> {
+        match self.identifiers.get(identifier) {
+            Some(name) => Some(*name),
+            None => built_in_name(identifier.arcs()),
+        }
+    }
+
     /// Returns the value of the type `Universal` whose encoding in BER these octets are.
     pub(crate) fn universal_value<'input>(
         &self,

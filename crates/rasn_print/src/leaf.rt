@@ -1,6 +1,7 @@
 //! Values that hold no other values, as text.
 
 use crate::identifiers::identifier_text;
+use crate::known::Known;
 use rasn_schema::{LeafKind, NamedNumber, Type, Value, name_of_number};
 use rasn_types::types::{BitStr, BmpString, Hexadecimal, Integer};
 use std::alloc::{AllocError, Global};
@@ -16,6 +17,7 @@ const SHOWN: usize = 48;
 /// Long octets may be cut.
 pub(crate) fn leaf_text(
     alloc: Global,
+    known: &Known<'_>,
     ty: Option<&Type>,
     value: &Value<'_>,
     is_cut: bool,
@@ -35,7 +37,7 @@ pub(crate) fn leaf_text(
             Some(text) => octets_text(alloc, text.as_bytes(), is_cut),
             None => digits_text(alloc, units.as_octets(), is_cut),
         },
-        Value::Arcs(identifier) => identifier_text(alloc, identifier),
+        Value::Arcs(identifier) => identifier_text(alloc, known, identifier),
         Value::Instant(time) => time.to_string(alloc),
         Value::Day(date) => date.to_string(alloc),
         Value::Items(_) | Value::Elements(_) | Value::Chosen(_, _) | Value::Absent => {

@@ -9,6 +9,7 @@ mod dump;
 mod example;
 mod fault;
 mod fingerprint;
+mod identifier_names;
 mod identifiers;
 mod input;
 mod known;

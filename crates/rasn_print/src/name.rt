@@ -74,7 +74,7 @@ fn push_attribute(
     kind: &ObjectIdentifier,
     value: &[u8],
 ) -> Result<(), AllocError> {
-    match attribute_name(kind.arcs()) {
+    match attribute_name(known, kind) {
         Some(name) => write!(text, "{name}=")?,
         None => write!(text, "{kind}=")?,
     }

@@ -7,7 +7,7 @@ pub(crate) mod object;
 
 use crate::dump::{End, Entries, Entry, are_entries, primitive_text, push_entry, push_indent};
 use crate::fault::CallFault;
-use crate::identifiers::{identifier_name, identifier_text};
+use crate::identifiers::{built_in_name, identifier_text};
 use crate::known::{Form, Known};
 use crate::leaf::{digits_text, leaf_text, string_text};
 use crate::name::name_text;
@@ -120,7 +120,7 @@ pub(crate) fn line_text(
         Some(ty @ (Type::Leaf { .. } | Type::Enumerated { .. })) => {
             match string_text(alloc, Some(ty), inner.value)? {
                 Some(text) => Ok(Some(text)),
-                None => Ok(Some(leaf_text(alloc, Some(ty), inner.value, known.is_cut)?)),
+                None => Ok(Some(leaf_text(alloc, known, Some(ty), inner.value, known.is_cut)?)),
             }
         }
         Some(
@@ -228,7 +228,13 @@ fn print_by(text: &mut String, place: LinePlace<'_>, view: &View<'_, '_>) -> App
             print_octets(text, place, value, Form::Bits)
         }
         Type::Leaf { .. } | Type::Enumerated { .. } => {
-            let shown = leaf_text(place.alloc, Some(ty), value, place.known.is_cut)?;
+            let shown = leaf_text(
+                place.alloc,
+                place.known,
+                Some(ty),
+                value,
+                place.known.is_cut,
+            )?;
             push_line(text, place, &shown)
         }
         Type::Sequence { .. } | Type::Set { .. } | Type::SequenceOf { .. } | Type::SetOf { .. } =>
@@ -304,7 +310,8 @@ fn print_heading(
         return push_line(text, place, &"empty");
     }
     if let (false, Some(Value::Arcs(identifier))) = (is_list, values.first()) {
-        return push_line(text, place, &identifier_text(place.alloc, identifier)?);
+        let shown = identifier_text(place.alloc, place.known, identifier)?;
+        return push_line(text, place, &shown);
     }
     print_title(text, place)
 }
@@ -355,7 +362,11 @@ fn print_held(
         if form == Form::Open {
             return print_encoding(text, place, octets);
         }
-        return push_line(text, place, &leaf_text(alloc, None, value, known.is_cut)?);
+        return push_line(
+            text,
+            place,
+            &leaf_text(alloc, known, None, value, known.is_cut)?,
+        );
     };
     match decode(alloc, place.rule, &known.schema, id, octets) {
         Ok(value) => {
@@ -429,7 +440,7 @@ fn print_entry(text: &mut String, place: LinePlace<'_>, entry: &Entry<'_>) -> Ap
 fn hint_of(values: &[Value<'_>]) -> Option<&'static str> {
     for value in values {
         if let Some(identifier) = identifier_in(value) {
-            return identifier_name(identifier.arcs());
+            return built_in_name(identifier.arcs());
         }
     }
     None

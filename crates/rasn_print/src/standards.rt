@@ -3022,8 +3022,8 @@ END
 
 fn contents() -> &'static str {
     "-- Types of what is in open types (`Open`), in OCTET STRINGs (`Octets`) and in BIT STRINGs (`Bits`) beside an
--- identifier: each alternative has the name that identifiers.rt gives to it. `Universal` has the types of values
--- with universal tags.
+-- identifier: each alternative has the name that modules/identifiers.asn1 has for it. `Universal` has the types
+-- of values with universal tags.
 
 Contents DEFINITIONS EXPLICIT TAGS ::= BEGIN
 

@@ -485,7 +485,7 @@ impl Message<'_, '_> {
             return self.shown_in_parts();
         }
         let shown = if call.has_offsets {
-            offsets_text(alloc, self.wanted, self.octets)
+            offsets_text(alloc, self.context.known, self.wanted, self.octets)
         } else {
             show(alloc, self.context.known, self.wanted, self.octets)
         };

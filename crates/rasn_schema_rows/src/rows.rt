@@ -4,7 +4,7 @@ use crate::departures::print_departures;
 use crate::library::print_library;
 use crate::messages::answer_of;
 use crate::modules::print_modules;
-use crate::types::{print_types, print_warnings};
+use crate::types::print_file;
 use rasn_compiler::Modules;
 use std::io::{self, BufRead, BufReader, BufWriter, Write};
 
@@ -45,13 +45,9 @@ fn print_row<W: Write>(
             writeln!(output, "{line}")?;
             print_library(rt, read, rest, output)
         }
-        "types" => {
+        "types" | "warnings" | "identifiers" => {
             writeln!(output, "{line}")?;
-            print_types(rt, rest, output)
-        }
-        "warnings" => {
-            writeln!(output, "{line}")?;
-            print_warnings(rt, rest, output)
+            print_file(rt, verb, rest, output)
         }
         "typed" | "open" | "first" => {
             writeln!(output, "{line}")?;

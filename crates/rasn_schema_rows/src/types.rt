@@ -7,33 +7,53 @@ use std::alloc::Global;
 use std::fs;
 use std::io::{self, Write};
 
-/// Prints the faults of a file of modules, and the schema of each type or why it has none.
-pub fn print_types<W: Write>(rt: &HostRuntime, name: &str, output: &mut W) -> io::Result<()> {
+/// Prints what a row asks of a file of modules.
+pub fn print_file<W: Write>(
+    rt: &HostRuntime,
+    verb: &str,
+    name: &str,
+    output: &mut W,
+) -> io::Result<()> {
     let text = fs::read_to_string(rt, name)?;
     let sources = [Source {
         name,
         text: text.as_str(),
     }];
     let read = Modules::parse(rt.alloc(), &sources)?;
+    match verb {
+        "warnings" => print_warnings(rt.alloc(), &read, output),
+        "identifiers" => print_identifiers(rt.alloc(), &read, output),
+        _ => print_types(rt.alloc(), &read, output),
+    }
+}
+
+/// Prints the faults of modules, and the schema of each type or why it has none.
+fn print_types<W: Write>(alloc: Global, read: &Modules<'_>, output: &mut W) -> io::Result<()> {
     for fault in &read.faults {
         writeln!(output, "{fault}")?;
     }
     for module in &read.modules {
-        print_module(rt.alloc(), &read, module, output)?;
+        print_module(alloc, read, module, output)?;
     }
     Ok(())
 }
 
-/// Prints what is wrong in a file of modules and spoils none of their types.
-pub fn print_warnings<W: Write>(rt: &HostRuntime, name: &str, output: &mut W) -> io::Result<()> {
-    let text = fs::read_to_string(rt, name)?;
-    let sources = [Source {
-        name,
-        text: text.as_str(),
-    }];
-    let read = Modules::parse(rt.alloc(), &sources)?;
-    for warning in &read.warnings(rt.alloc())? {
+/// Prints what is wrong in modules and spoils none of their types.
+fn print_warnings<W: Write>(alloc: Global, read: &Modules<'_>, output: &mut W) -> io::Result<()> {
+    for warning in &read.warnings(alloc)? {
         writeln!(output, "{warning}")?;
+    }
+    Ok(())
+}
+
+/// Prints the values of modules that are identifiers.
+fn print_identifiers<W: Write>(
+    alloc: Global,
+    read: &Modules<'_>,
+    output: &mut W,
+) -> io::Result<()> {
+    for found in &read.identifiers(alloc)? {
+        writeln!(output, "{} {}", found.name, found.identifier)?;
     }
     Ok(())
 }

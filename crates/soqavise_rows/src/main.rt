@@ -20,12 +20,19 @@ fn main(rt: HostRuntime) -> ExitCode {
 }
 
 /// A module that isn't built in, as if all calls had `--module points.asn1`: its type Point is used
-/// by Shape, and Shape by itself alone.
+/// by Shape, and Shape by itself alone. Its values are identifiers, except `count` and the last.
 const POINTS: Source<'static> = Source {
     name: "points.asn1",
     text: "Points DEFINITIONS AUTOMATIC TAGS ::= BEGIN \
         Shape ::= [PRIVATE 1] SEQUENCE { points SEQUENCE OF Point, next Shape OPTIONAL } \
         Point ::= [PRIVATE 2] SEQUENCE { x INTEGER, y INTEGER } \
+        points OBJECT IDENTIFIER ::= { iso 3 dod(6) internet(1) 4 1 99999 } \
+        Kind ::= OBJECT IDENTIFIER \
+        point-colour Kind ::= { points 1 } \
+        label OBJECT IDENTIFIER ::= { joint-iso-itu-t ds(5) 4 41 } \
+        label-again OBJECT IDENTIFIER ::= label \
+        count INTEGER ::= 3 \
+        wrong OBJECT IDENTIFIER ::= { 1 99 } \
         END",
 };
 

@@ -122,9 +122,7 @@ fn put_by(out: &mut Writer, place: LinePlace<'_>, view: &View<'_, '_>) -> Put {
         Type::Leaf { kind, .. } if *kind == LeafKind::BitString => {
             put_octets(out, place, value, Form::Bits)
         }
-        Type::Leaf { .. } | Type::Enumerated { .. } => {
-            put_leaf(out, place.alloc, Some(ty), value)
-        }
+        Type::Leaf { .. } | Type::Enumerated { .. } => { put_leaf(out, place, Some(ty), value) }
         Type::Sequence { .. } | Type::Set { .. } => {
             put_components(out, place, view.schema, ty, parts_of(value))
         }
@@ -248,14 +246,14 @@ fn put_closed(
 ) -> Put {
     let (alloc, known) = (place.alloc, place.known);
     if form == Form::Bits {
-        return out.string(leaf_text(alloc, None, value, false)?.as_str());
+        return out.string(leaf_text(alloc, known, None, value, false)?.as_str());
     }
     if form == Form::Open {
         if let (Some(id), Some(value)) = (known.universal, known.universal_value(alloc, octets)?) {
             if let Some((_, inner)) = inside(&known.schema.view(id, &value)) {
                 return put_leaf(
                     out,
-                    alloc,
+                    place,
                     type_at(known.schema.types(), inner.type_id),
                     inner.value,
                 );
@@ -283,7 +281,8 @@ fn put_digits(out: &mut Writer, alloc: Global, octets: &[u8]) -> Put {
 
 /// Writes a value that holds no others: a truth value, null, a number or text; bits that have names as
 /// an array of those that are 1.
-fn put_leaf(out: &mut Writer, alloc: Global, ty: Option<&Type>, value: &Value<'_>) -> Put {
+fn put_leaf(out: &mut Writer, place: LinePlace<'_>, ty: Option<&Type>, value: &Value<'_>) -> Put {
+    let (alloc, known) = (place.alloc, place.known);
     match value {
         Value::Boolean(truth) => out.boolean(*truth),
         Value::Null | Value::Absent => out.null(),
@@ -295,7 +294,7 @@ fn put_leaf(out: &mut Writer, alloc: Global, ty: Option<&Type>, value: &Value<'_
         },
         Value::Text(_) | Value::Units(_) => match string_text(alloc, ty, value)? {
             Some(text) => out.string(text.as_str()),
-            None => out.string(leaf_text(alloc, ty, value, false)?.as_str()),
+            None => out.string(leaf_text(alloc, known, ty, value, false)?.as_str()),
         },
         Value::Bits(_)
         | Value::Arcs(_)
@@ -303,7 +302,7 @@ fn put_leaf(out: &mut Writer, alloc: Global, ty: Option<&Type>, value: &Value<'_
         | Value::Day(_)
         | Value::Items(_)
         | Value::Elements(_)
-        | Value::Chosen(_, _) => out.string(leaf_text(alloc, ty, value, false)?.as_str()),
+        | Value::Chosen(_, _) => out.string(leaf_text(alloc, known, ty, value, false)?.as_str()),
     }
 }
 
