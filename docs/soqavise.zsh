@@ -162,7 +162,7 @@ _soqavise() {
                 generate)
                     _arguments -s -S \
                         '(- *)'{-h,--help}'[Prints help]' \
-                        --out='[The folder of the crate, which has its name; files of these types are overwritten]:FOLDER:_files -/' \
+                        --out='[The folder of the crate, which has its name; files of these types are overwritten]:FOLDER:_path_files -/' \
                         '*'--message='[Says that TYPE is a whole message, which is read by RULES\: ber, cer or der; may be repeated]:TYPE=RULES:_soqavise_types' \
                         '*'--also='[Names a file NAME.rt of the crate that is written by hand, as a public module; may be repeated]:NAME: ' \
                         '*'--type='[Writes TYPE and what it is made of, instead of all types of the modules; may be repeated]:TYPE:_soqavise_types' \
