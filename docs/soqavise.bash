@@ -53,7 +53,7 @@ _soqavise() {
         command+=' value of'
     fi
     case $command in
-        show) options='-m --module -t --type -l --lines --errors --stream -i --input -r --rules --color --offsets --full --json' ;;
+        show) options='-m --module -t --type -l --lines --errors --stream -i --input -r --rules --color --offsets --full --json --html' ;;
         check) options='-m --module -t --type -l --lines --errors --stream -i --input -r --rules --outer' ;;
         lint) options='-m --module -t --type -l --lines --errors --stream -i --input --outer' ;;
         json) options='-m --module -t --type -l --lines --errors --stream -i --input -r --rules' ;;

@@ -56,6 +56,7 @@ _soqavise() {
                         --offsets'[Prints where each part begins, and its lengths]' \
                         --full'[Prints all of octets that are cut otherwise]' \
                         --json'[Prints the same as JSON, with all octets; `json` prints that of X.697]' \
+                        --html'[Prints a page of HTML\: parts, where departures from DER are marked, beside octets]' \
                         '*:FILE:_files'
                     ;;
                 check)

@@ -1,7 +1,7 @@
 //! The parts of messages and of what they hold, with their places.
 
 use crate::dump::{End, Entries, are_entries};
-use crate::identifiers::identifier_name;
+use crate::identifiers::built_in_name;
 use crate::known::{Form, Known};
 use crate::refusal_text::text_of;
 use crate::types::MessageType;
@@ -31,7 +31,7 @@ pub(crate) struct Listed<'a> {
     /// For each type of the schema, whether a part is of it.
     pub types: Vec<bool>,
     /// The identifiers that have names, and these.
-    pub identifiers: Vec<(String, &'static str)>,
+    pub identifiers: Vec<(String, &'a str)>,
     /// What is wrong at which octet.
     pub faults: Vec<(usize, String)>,
 }
@@ -124,7 +124,7 @@ impl<'a> Listed<'a> {
         Ok(())
     }
 
-    /// Adds the name of an identifier, if it has one. Returns it.
+    /// Adds the name of an identifier, if it has one. Returns the one by which types are known.
     fn name_identifier(&mut self, part: &Part<'_>) -> Result<Option<&'static str>, AllocError> {
         let (alloc, schema) = (self.alloc, &self.known.schema);
         let value = match decode(alloc, self.rule, schema, part.id, part.octets) {
@@ -135,13 +135,14 @@ impl<'a> Listed<'a> {
         let Value::Arcs(identifier) = &value else {
             return Ok(None);
         };
-        let Some(name) = identifier_name(identifier.arcs()) else {
+        let known = self.known;
+        let Some(name) = known.identifier_name(identifier) else {
             return Ok(None);
         };
         if !self.identifiers.iter().any(|it| it.1 == name) {
             self.identifiers.push((identifier.to_string(alloc)?, name))?;
         }
-        Ok(Some(name))
+        Ok(built_in_name(identifier.arcs()))
     }
 
     /// Adds why octets at an offset aren't a message of the type that an identifier names.
