@@ -56,7 +56,7 @@ _soqavise() {
         show) options='-m --module -t --type -l --lines --errors --stream -i --input -r --rules --color --offsets --full --json --html' ;;
         check) options='-m --module -t --type -l --lines --errors --stream -i --input -r --rules --outer' ;;
         lint) options='-m --module -t --type -l --lines --errors --stream -i --input --outer' ;;
-        json) options='-m --module -t --type -l --lines --errors --stream -i --input -r --rules' ;;
+        json) options='-m --module -t --type -l --lines --errors --stream -i --input -r --rules --numbers' ;;
         encode) options='-m --module -t --type --example -r --rules -l --lines --errors' ;;
         normalise) options='-m --module -t --type -l --lines --errors --stream -i --input -r --rules' ;;
         types) options='-m --module' ;;
@@ -78,6 +78,7 @@ _soqavise() {
         *' -i' | *' --input') _soqavise_words 'der pem hex base64' ;;
         *' -r' | *' --rules') _soqavise_words 'ber cer der' ;;
         *' --color') _soqavise_words 'auto always never' ;;
+        *' --numbers') _soqavise_words 'json text' ;;
         *' --out') _soqavise_folders ;;
         *' --also') compopt +o default 2> /dev/null ;;
         *)

@@ -77,6 +77,8 @@ pub struct Call {
     pub is_stream: bool,
     /// Whether what is shown, or the values of parts, are JSON.
     pub has_json: bool,
+    /// Whether whole numbers of JSON that a double can't hold are strings.
+    pub has_exact_numbers: bool,
     /// Whether `show` prints a page of HTML.
     pub has_html: bool,
     /// Whether the columns of a table have commas between them, and not tabs.
@@ -206,7 +208,8 @@ fn lint_command<'a>(alloc: Global) -> Result<Command<'a>, AllocError> {
 fn json_command<'a>(alloc: Global) -> Result<Command<'a>, AllocError> {
     messages(alloc, "json", "Prints messages as JSON (X.697)")?
         .after_help("Example: soqavise json cert.pem")
-        .arg(rules(alloc, READ))
+        .arg(rules(alloc, READ))?
+        .arg(numbers(alloc))
 }
 
 fn encode_command<'a>(alloc: Global) -> Result<Command<'a>, AllocError> {
@@ -370,6 +373,16 @@ fn errors<'a>(alloc: Global) -> Result<Arg<'a>, AllocError> {
         .requires_arg("lines")
 }
 
+fn numbers<'a>(alloc: Global) -> Arg<'a> {
+    Arg::new(alloc, "numbers")
+        .long("numbers")
+        .value_name("FORM")
+        .value_parser(ValueParser::from(["json", "text"].as_slice()))
+        .help(
+            "The form of whole numbers that a double can't hold: as text strings of digits (without it, json)",
+        )
+}
+
 fn color<'a>(alloc: Global) -> Arg<'a> {
     Arg::new(alloc, "color")
         .long("color")
@@ -431,6 +444,7 @@ pub fn call_of(alloc: Global, matches: &ArgMatches<'_>) -> Result<Option<Call>, 
         has_json_errors: inner.get_str("errors") == Some("json"),
         is_stream: inner.get_flag("stream"),
         has_json: inner.get_flag("json"),
+        has_exact_numbers: inner.get_str("numbers") == Some("text"),
         has_html: inner.get_flag("html"),
         is_csv: inner.get_flag("csv"),
         color: color_of(inner.get_str("color")),

@@ -6,6 +6,7 @@
 mod catalog;
 mod command_line;
 mod dump;
+mod exact;
 mod example;
 mod fault;
 mod fingerprint;

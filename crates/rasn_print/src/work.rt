@@ -7,6 +7,7 @@ ghost use Rattle.rasn_print.specs.Verdicts.{IsVerdict, IsDerVerdict, IsRefusal, 
 
 use crate::command_line::{Call, Work};
 use crate::dump::{End, Entries, deeper_at, entry_of};
+use crate::exact::exact_numbers;
 use crate::example::example_of;
 use crate::fingerprint::fingerprint_line;
 use crate::known::{Candidates, Known};
@@ -628,6 +629,9 @@ impl Message<'_, '_> {
     fn json_of(&self, value: &Value<'_>) -> Answered {
         let (alloc, (_, schema, root)) = (self.context.alloc, self.wanted.parts());
         match to_json(alloc, schema, root, value, self.context.call.layout()) {
+            Ok(text) if self.context.call.has_exact_numbers => {
+                json_line(alloc, exact_numbers(alloc, text.as_str())?)
+            }
             Ok(text) => json_line(alloc, text),
             Err(error) if error.is_out_of_memory() => Err(AllocError),
             Err(error) => refused_for(alloc, &error),

@@ -3,6 +3,7 @@
 
 use super::{LinePlace, MESSAGE_LEVELS, hint_of, inside, parts_of, short_text};
 use crate::dump::End;
+use crate::exact::is_exact;
 use crate::known::{Form, Known};
 use crate::leaf::{
     bit_text, is_named_bits, leaf_text, name_of, names_of, number_text, string_text,
@@ -17,9 +18,6 @@ use rasn_schema::{
 };
 use rasn_types::types::{BitStr, Hexadecimal, Integer};
 use std::alloc::{AllocError, Global};
-
-/// Up to this number and down to its negative a double has each whole number (IEEE 754).
-const EXACT: i64 = 1 << 53;
 
 /// Whether there was memory for what is written.
 type Put = Result<(), AllocError>;
@@ -312,7 +310,7 @@ fn put_number(out: &mut Writer, alloc: Global, ty: Option<&Type>, number: &Integ
     let names = names_of(ty);
     let text = match number.to_i128() {
         Some(small) if name_of(names, small).is_none() => match i64::try_from(small) {
-            Ok(exact) if (-EXACT..=EXACT).contains(&exact) => return out.i64(exact),
+            Ok(exact) if is_exact(exact) => return out.i64(exact),
             _ => small.to_string(alloc)?,
         },
         _ => number_text(alloc, names, number, false)?,
