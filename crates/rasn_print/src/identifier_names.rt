@@ -11,8 +11,8 @@ pub(crate) const NAMES: &[(&[u32], Below)] = &[
         &[0, 4, 0, 1862, 1],
         &[
             (1, "id-etsi-qcs-QcCompliance"),
-            (2, "id-etsi-qcs-QcLimitValue"),
-            (3, "id-etsi-qcs-QcRetentionPeriod"),
+            (2, "id-etsi-qcs-LimitValue"),
+            (3, "id-etsi-qcs-RetentionPeriod"),
             (4, "id-etsi-qcs-QcSSCD"),
             (5, "id-etsi-qcs-QcPDS"),
             (6, "id-etsi-qcs-QcType"),
@@ -25,27 +25,6 @@ pub(crate) const NAMES: &[(&[u32], Below)] = &[
             (1, "id-etsi-qct-esign"),
             (2, "id-etsi-qct-eseal"),
             (3, "id-etsi-qct-web"),
-        ],
-    ),
-    (
-        &[0, 4, 0, 2042, 1],
-        &[
-            (1, "ncp"),
-            (2, "ncpplus"),
-            (3, "lcp"),
-            (4, "evcp"),
-            (6, "dvcp"),
-            (7, "ovcp"),
-        ],
-    ),
-    (
-        &[0, 4, 0, 194112, 1],
-        &[
-            (0, "qcp-natural"),
-            (1, "qcp-legal"),
-            (2, "qcp-natural-qscd"),
-            (3, "qcp-legal-qscd"),
-            (4, "qcp-web"),
         ],
     ),
     (&[0, 9, 2342, 19200300, 100], &[(1, "pilotAttributeType")]),
@@ -83,7 +62,7 @@ pub(crate) const NAMES: &[(&[u32], Below)] = &[
             (56, "documentPublisher"),
         ],
     ),
-    (&[1, 2], &[(840, "member-us")]),
+    (&[1, 2], &[(840, "iso-us")]),
     (&[1, 2, 156, 10197], &[(1, "sm-scheme")]),
     (
         &[1, 2, 156, 10197, 1],
@@ -208,7 +187,7 @@ pub(crate) const NAMES: &[(&[u32], Below)] = &[
     (
         &[1, 2, 643, 7, 1, 2, 1, 2],
         &[
-            (0, "id-tc26-gost-3410-12-512-paramSetTest"),
+            (0, "id-tc26-gost-3410-2012-512-paramSetTest"),
             (1, "id-tc26-gost-3410-12-512-paramSetA"),
             (2, "id-tc26-gost-3410-12-512-paramSetB"),
             (3, "id-tc26-gost-3410-2012-512-paramSetC"),
@@ -224,7 +203,7 @@ pub(crate) const NAMES: &[(&[u32], Below)] = &[
             (10040, "x9-57"),
             (10045, "ansi-X9-62"),
             (10046, "ansi-X942"),
-            (113533, "nortelnetworks"),
+            (113533, "nt"),
             (113549, "rsadsi"),
         ],
     ),
@@ -249,7 +228,7 @@ pub(crate) const NAMES: &[(&[u32], Below)] = &[
         &[
             (1, "id-fieldType"),
             (2, "id-publicKeyType"),
-            (3, "x962-curves"),
+            (3, "curves"),
             (4, "id-ecSigType"),
         ],
     ),
@@ -752,7 +731,7 @@ pub(crate) const NAMES: &[(&[u32], Below)] = &[
     (
         &[1, 3, 6, 1, 4, 1, 311, 2, 1],
         &[
-            (4, "ms-spcIndirectData"),
+            (4, "ms-spcIndirectDataContext"),
             (11, "ms-spcStatementType"),
             (12, "ms-spcSpOpusInfo"),
             (14, "ms-certExtensions"),
@@ -774,8 +753,14 @@ pub(crate) const NAMES: &[(&[u32], Below)] = &[
             (4, "ms-encryptedFileSystem"),
         ],
     ),
-    (&[1, 3, 6, 1, 4, 1, 311, 17], &[(1, "ms-keyProviderName")]),
-    (&[1, 3, 6, 1, 4, 1, 311, 20], &[(2, "ms-enrollCertType")]),
+    (
+        &[1, 3, 6, 1, 4, 1, 311, 17],
+        &[(1, "ms-keyProviderNameAttr")],
+    ),
+    (
+        &[1, 3, 6, 1, 4, 1, 311, 20],
+        &[(2, "ms-enrollCerttypeExtension")],
+    ),
     (
         &[1, 3, 6, 1, 4, 1, 311, 20, 2],
         &[(2, "ms-smartcardLogon"), (3, "ms-userPrincipalName")],
@@ -796,14 +781,13 @@ pub(crate) const NAMES: &[(&[u32], Below)] = &[
             (3, "jurisdictionCountryName"),
         ],
     ),
-    (&[1, 3, 6, 1, 4, 1, 11129, 2], &[(4, "google-ct")]),
     (
         &[1, 3, 6, 1, 4, 1, 11129, 2, 4],
         &[
             (2, "signedCertificateTimestampList"),
             (3, "precertificatePoison"),
-            (4, "precertificateSigning"),
-            (5, "ocspSignedCertificateTimestampList"),
+            (4, "precertificateSigner"),
+            (5, "ct-cert-scts"),
         ],
     ),
     (&[1, 3, 6, 1, 5], &[(2, "kerberosv5")]),
@@ -921,9 +905,6 @@ pub(crate) const NAMES: &[(&[u32], Below)] = &[
             (32, "id-kp-cmKGA"),
             (35, "id-kp-bundleSecurity"),
             (36, "id-kp-documentSigning"),
-            (37, "id-kp-jwt"),
-            (38, "id-kp-httpContentEncrypt"),
-            (39, "id-kp-oauthAccessTokenSigning"),
         ],
     ),
     (
@@ -1227,7 +1208,7 @@ pub(crate) const NAMES: &[(&[u32], Below)] = &[
             (6, "usmStatsDecryptionErrors"),
         ],
     ),
-    (&[1, 3, 14, 3], &[(2, "oiw-algorithm")]),
+    (&[1, 3, 14, 3], &[(2, "algorithms")]),
     (
         &[1, 3, 14, 3, 2],
         &[
@@ -1268,7 +1249,7 @@ pub(crate) const NAMES: &[(&[u32], Below)] = &[
             (113, "id-Ed448"),
         ],
     ),
-    (&[1, 3, 132], &[(0, "certicom-curve"), (1, "secg-scheme")]),
+    (&[1, 3, 132], &[(0, "curve"), (1, "secg-scheme")]),
     (
         &[1, 3, 132, 0],
         &[
@@ -1342,10 +1323,7 @@ pub(crate) const NAMES: &[(&[u32], Below)] = &[
             (16, "mqvSinglePass-sha1kdf-scheme"),
         ],
     ),
-    (
-        &[2, 5],
-        &[(4, "id-at"), (6, "id-oc"), (13, "id-mr"), (29, "id-ce")],
-    ),
+    (&[2, 5], &[(4, "id-at"), (29, "id-ce")]),
     (&[2, 5, 1, 5], &[(55, "id-at-clearance-rfc3281")]),
     (
         &[2, 5, 4],
@@ -1507,7 +1485,8 @@ pub(crate) const NAMES: &[(&[u32], Below)] = &[
             (45, "statusReferrals"),
             (46, "freshestCRL"),
             (47, "orderedList"),
-            (53, "baseUpdateTime"),
+            (51, "baseUpdateTime"),
+            (53, "deltaInfo"),
             (54, "inhibitAnyPolicy"),
             (55, "targetInformation"),
             (56, "noRevAvail"),
@@ -1517,11 +1496,7 @@ pub(crate) const NAMES: &[(&[u32], Below)] = &[
     (&[2, 5, 29, 37], &[(0, "anyExtendedKeyUsage")]),
     (
         &[2, 16, 840, 1],
-        &[
-            (101, "us-gov"),
-            (113730, "netscape"),
-            (113733, "id-VeriSign"),
-        ],
+        &[(101, "gov"), (113730, "netscape"), (113733, "id-VeriSign")],
     ),
     (&[2, 16, 840, 1, 101], &[(3, "csor")]),
     (
@@ -1529,21 +1504,6 @@ pub(crate) const NAMES: &[(&[u32], Below)] = &[
         &[(22, "id-keyExchangeAlgorithm")],
     ),
     (&[2, 16, 840, 1, 101, 3], &[(4, "nistAlgorithms")]),
-    (
-        &[2, 16, 840, 1, 101, 3, 2, 1],
-        &[(3, "fpki-policies"), (48, "nist-test-policy")],
-    ),
-    (
-        &[2, 16, 840, 1, 101, 3, 2, 1, 3],
-        &[
-            (6, "id-fpki-common-policy"),
-            (7, "id-fpki-common-hardware"),
-            (8, "id-fpki-common-devices"),
-            (13, "id-fpki-common-authentication"),
-            (16, "id-fpki-common-High"),
-            (17, "id-fpki-common-cardAuth"),
-        ],
-    ),
     (
         &[2, 16, 840, 1, 101, 3, 2, 1, 48],
         &[
@@ -1553,8 +1513,6 @@ pub(crate) const NAMES: &[(&[u32], Below)] = &[
             (4, "nist-test-policy-4"),
             (5, "nist-test-policy-5"),
             (6, "nist-test-policy-6"),
-            (7, "nist-test-policy-7"),
-            (8, "nist-test-policy-8"),
         ],
     ),
     (
@@ -1690,11 +1648,7 @@ pub(crate) const NAMES: &[(&[u32], Below)] = &[
             (8, "id-extensionReq"),
         ],
     ),
-    (&[2, 23], &[(140, "ca-browser-forum")]),
-    (
-        &[2, 23, 140, 1],
-        &[(1, "ev-guidelines"), (3, "extended-validation-codesigning")],
-    ),
+    (&[2, 23, 140, 1], &[(1, "extended-validation")]),
     (
         &[2, 23, 140, 1, 2],
         &[
@@ -1703,6 +1657,4 @@ pub(crate) const NAMES: &[(&[u32], Below)] = &[
             (3, "individual-validated"),
         ],
     ),
-    (&[2, 23, 140, 1, 4], &[(1, "code-signing-requirements")]),
-    (&[2, 23, 140, 3], &[(1, "id-CABFOrganizationIdentifier")]),
 ];
