@@ -2,4 +2,3 @@ pub mod TypeNames
 pub mod Libraries
 pub mod Texts
 pub mod Called
-pub mod NamedValues

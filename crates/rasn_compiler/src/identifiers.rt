@@ -1,6 +1,4 @@
 //! Values of OBJECT IDENTIFIER that have names.
-ghost use Rattle.std.specs.Prelude.{IfOk, IfSome, OnOk};
-ghost use Rattle.rasn_compiler.specs.Identifiers.{AreValuesOf, IsOneOf, IsValue};
 
 use crate::fault::Halt;
 use crate::modules::Modules;
@@ -32,9 +30,7 @@ impl<'text> Modules<'text> {
     /// let found = modules.identifiers(alloc)?;
     /// // `found[0].name` is id-a, and `found[0].identifier` is 1.2.840
     /// ```
-    pub fn identifiers(&self, alloc: Global) -> Result<Vec<NamedIdentifier<'text>>, AllocError>
-        ensures { IfOk result (λ found. AreValuesOf self.now.modules.items found.items) }
-    {
+    pub fn identifiers(&self, alloc: Global) -> Result<Vec<NamedIdentifier<'text>>, AllocError> {
         let mut resolver = Resolver {
             alloc,
             modules: self,
@@ -57,13 +53,11 @@ impl<'text> Modules<'text> {
 fn add_identifiers<'text>(
     resolver: &mut Resolver<'_, 'text>,
     index: usize,
-    owner: &Module<'text>,
+    module: &Module<'text>,
     found: &mut Vec<NamedIdentifier<'text>>,
-) -> Result<(), AllocError>
-    ensures { (all : _) → IsOneOf all owner.now → AreValuesOf all found.old.items → OnOk result (AreValuesOf all found.new.items) }
-{
-    for assignment in &owner.assignments {
-        if let Some(identifier) = identifier_of(resolver, index, owner, assignment)? {
+) -> Result<(), AllocError> {
+    for assignment in &module.assignments {
+        if let Some(identifier) = identifier_of(resolver, index, module, assignment)? {
             found.push(NamedIdentifier {
                 name: assignment.name,
                 identifier,
@@ -79,9 +73,7 @@ fn identifier_of<'text>(
     index: usize,
     module: &Module<'text>,
     assignment: &Assignment<'text>,
-) -> Result<Option<ObjectIdentifier>, AllocError>
-    ensures { IfOk result (λ found. IfSome found (λ _. IsValue assignment.now.assigned)) }
-{
+) -> Result<Option<ObjectIdentifier>, AllocError> {
     let Assigned::Value { of, value } = assignment.assigned else {
         return Ok(None);
     };
