@@ -273,10 +273,10 @@ fn known_of<'text>(
 }
 
 /// Returns the names of the identifiers of modules that aren't built in: the first of each.
-fn own_identifiers<'text>(
+fn own_identifiers(
     alloc: Global,
-    read: &Modules<'text>,
-) -> Result<BTreeMap<ObjectIdentifier, &'text str>, AllocError> {
+    read: &Modules<'_>,
+) -> Result<BTreeMap<ObjectIdentifier, String>, AllocError> {
     let mut names = BTreeMap::new(alloc);
     for found in read.identifiers(alloc)? {
         let NamedIdentifier {
@@ -285,7 +285,7 @@ fn own_identifiers<'text>(
             ..
         } = found;
         if !names.contains_key(&identifier) {
-            names.insert(identifier, name)?;
+            names.insert(identifier, String::from_str(alloc, name)?)?;
         }
     }
     Ok(names)

@@ -74,7 +74,7 @@ pub struct Known<'text> {
     pub(crate) octets: Option<TypeId>,
     pub(crate) bits: Option<TypeId>,
     /// The names of the identifiers of modules that aren't built in.
-    pub(crate) identifiers: BTreeMap<ObjectIdentifier, &'text str>,
+    pub(crate) identifiers: BTreeMap<ObjectIdentifier, String>,
     /// Whether long octets are cut where they are shown.
     pub(crate) is_cut: bool,
 }
@@ -83,7 +83,7 @@ impl Known<'_> {
     /// Returns the name of an identifier: that of a module that isn't built in, or else of one that is.
     pub(crate) fn identifier_name(&self, identifier: &ObjectIdentifier) -> Option<&str> {
         match self.identifiers.get(identifier) {
-            Some(name) => Some(*name),
+            Some(name) => Some(name.as_str()),
             None => built_in_name(identifier.arcs()),
         }
     }
