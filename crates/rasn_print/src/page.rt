@@ -4,12 +4,14 @@
 mod list;
 
 use crate::dump::tag_text;
+use crate::known::Known;
 use crate::leaf::names_of;
 use crate::page_text::{POLICY, SCRIPT, STYLE};
 use crate::reason::Reason;
 use crate::types::MessageType;
 use json::Writer;
-pub(crate) use list::{Listed, parts_of_page};
+use list::{Listed, list_message};
+use rasn_dynamic::Refusal;
 use rasn_schema::{NamedNumber, Type, part_name};
 use rasn_text::{Escaping, visible};
 use rasn_types::types::Hexadecimal;
@@ -45,26 +47,30 @@ pub(crate) fn page_block(alloc: Global, name: &str, data: &[u8]) -> Result<Vec<u
     Ok(block)
 }
 
-/// Returns the data of a message of this type whose parts are listed, with what departs from DER.
+/// Returns the data of a message of this type, with what departs from DER, or why it is refused.
 ///
 /// # Errors
 /// `AllocError` if memory runs out.
-pub(crate) fn page_data(
+pub(crate) fn page_data<'a>(
     alloc: Global,
+    known: &'a Known<'a>,
     wanted: &MessageType<'_>,
     octets: &[u8],
-    listed: &Listed<'_>,
     departures: &[Reason],
-) -> Result<Vec<u8>, AllocError> {
+) -> Result<Result<Vec<u8>, Refusal>, AllocError> {
+    let mut listed = Listed::new(alloc, known, wanted.rule)?;
+    if let Some(refusal) = list_message(&mut listed, wanted.root, octets)? {
+        return Ok(Err(refusal));
+    }
     let mut out = Writer::new(Vec::new(alloc));
     out.begin_object()?;
     out.key("type")?;
     out.string(wanted.name)?;
     put_refused(&mut out, None)?;
     put_octets(&mut out, alloc, octets)?;
-    put_listed(&mut out, alloc, listed, departures)?;
+    put_listed(&mut out, alloc, &listed, departures)?;
     out.end_object()?;
-    Ok(script_text(alloc, out.into_inner())?.into_bytes())
+    Ok(Ok(script_text(alloc, out.into_inner())?.into_bytes()))
 }
 
 /// Returns the data of octets that are refused, with why and where. They have no parts: the script

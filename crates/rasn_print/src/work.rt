@@ -12,7 +12,7 @@ use crate::example::example_of;
 use crate::fingerprint::fingerprint_line;
 use crate::known::{Candidates, Known};
 use crate::offsets::offsets_text;
-use crate::page::{page_data, parts_of_page};
+use crate::page::page_data;
 use crate::printer::large::LARGE;
 use crate::printer::line_text;
 use crate::printer::object::object_text;
@@ -520,23 +520,16 @@ impl Message<'_, '_> {
     /// Returns its data for a page, with what departs from DER.
     fn shown_on_page(&self) -> Answered {
         let (context, wanted) = (self.context, self.wanted);
-        let listed = match parts_of_page(context.alloc, context.known, wanted, self.octets)? {
-            Ok(listed) => listed,
-            Err(refusal) => return self.refused(refusal),
-        };
         let departures = match self.linted()? {
             Answer::Departures(reasons) => reasons,
             Answer::Refused(reason) => vec![in context.alloc; reason]?,
             Answer::Done(_) | Answer::Large(_) => Vec::new(context.alloc),
         };
-        let data = page_data(
-            context.alloc,
-            wanted,
-            self.octets,
-            &listed,
-            departures.as_slice(),
-        )?;
-        Ok(Answer::Done(data))
+        let (alloc, known) = (context.alloc, context.known);
+        match page_data(alloc, known, wanted, self.octets, departures.as_slice())? {
+            Ok(data) => Ok(Answer::Done(data)),
+            Err(refusal) => self.refused(refusal),
+        }
     }
 
     /// Returns that its lines are made as they are written.

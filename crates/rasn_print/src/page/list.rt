@@ -4,7 +4,6 @@ use crate::dump::{End, Entries, are_entries};
 use crate::identifiers::built_in_name;
 use crate::known::{Form, Known};
 use crate::refusal_text::text_of;
-use crate::types::MessageType;
 use rasn::refuse_remainder;
 use rasn_dynamic::{MessageParts, Part, Refusal, decode, parts_of};
 use rasn_schema::{LeafKind, Type, TypeId, Value, type_at};
@@ -161,26 +160,21 @@ impl<'a> Listed<'a> {
     }
 }
 
-/// Returns the parts of a message of this type and of what it holds, or why it is refused.
+/// Lists the parts of a message of this type and of what it holds. Returns why it is refused, if it is.
 ///
 /// # Errors
 /// `AllocError` if memory runs out.
-pub(crate) fn parts_of_page<'a>(
-    alloc: Global,
-    known: &'a Known<'a>,
-    wanted: &MessageType<'_>,
+pub(crate) fn list_message(
+    listed: &mut Listed<'_>,
+    id: TypeId,
     octets: &[u8],
-) -> Result<Result<Listed<'a>, Refusal>, AllocError> {
-    let mut listed = Listed::new(alloc, known, wanted.rule)?;
+) -> Result<Option<Refusal>, AllocError> {
     let nest = Nest {
         offset: 0,
         depth: 0,
         levels: NESTED,
     };
-    match list(&mut listed, wanted.root, octets, nest)? {
-        Some(refusal) => Ok(Err(refusal)),
-        None => Ok(Ok(listed)),
-    }
+    list(listed, id, octets, nest)
 }
 
 /// Lists the parts of a message of this type, which is in this place. Returns why it is refused, if it
