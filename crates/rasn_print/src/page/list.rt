@@ -67,7 +67,11 @@ struct Outer {
 
 impl<'a> Listed<'a> {
     /// Returns that nothing is listed yet of a message that these rules read.
-    fn new(alloc: Global, known: &'a Known<'a>, rule: Codec) -> Result<Listed<'a>, AllocError> {
+    pub(crate) fn new(
+        alloc: Global,
+        known: &'a Known<'a>,
+        rule: Codec,
+    ) -> Result<Listed<'a>, AllocError> {
         let mut types = Vec::new(alloc);
         for _ in known.schema.types() {
             types.push(false)?;
