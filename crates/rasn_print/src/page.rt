@@ -51,9 +51,9 @@ pub(crate) fn page_block(alloc: Global, name: &str, data: &[u8]) -> Result<Vec<u
 ///
 /// # Errors
 /// `AllocError` if memory runs out.
-pub(crate) fn page_data<'a>(
+pub(crate) fn page_data(
     alloc: Global,
-    known: &'a Known<'a>,
+    known: &Known<'_>,
     wanted: &MessageType<'_>,
     octets: &[u8],
     departures: &[Reason],

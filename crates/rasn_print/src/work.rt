@@ -520,15 +520,24 @@ impl Message<'_, '_> {
     /// Returns its data for a page, with what departs from DER.
     fn shown_on_page(&self) -> Answered {
         let (context, wanted) = (self.context, self.wanted);
-        let departures = match self.linted()? {
-            Answer::Departures(reasons) => reasons,
-            Answer::Refused(reason) => vec![in context.alloc; reason]?,
-            Answer::Done(_) | Answer::Large(_) => Vec::new(context.alloc),
-        };
-        let (alloc, known) = (context.alloc, context.known);
-        match page_data(alloc, known, wanted, self.octets, departures.as_slice())? {
+        let reasons = self.faults()?;
+        let reasons = reasons.as_slice();
+        match page_data(context.alloc, context.known, wanted, self.octets, reasons)? {
             Ok(data) => Ok(Answer::Done(data)),
             Err(refusal) => self.refused(refusal),
+        }
+    }
+
+    /// Returns what departs from DER, or why it is refused.
+    fn faults(&self) -> Result<Vec<Reason>, AllocError> {
+        match self.linted()? {
+            Answer::Departures(reasons) => Ok(reasons),
+            Answer::Refused(reason) => {
+                let mut reasons = Vec::new(self.context.alloc);
+                reasons.push(reason)?;
+                Ok(reasons)
+            }
+            Answer::Done(_) | Answer::Large(_) => Ok(Vec::new(self.context.alloc)),
         }
     }
 
