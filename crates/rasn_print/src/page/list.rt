@@ -92,13 +92,13 @@ impl<'a> Listed<'a> {
     fn push(&mut self, line: &Line) -> Result<(), AllocError> {
         let after = line.offset.saturating_sub(self.before);
         self.before = line.offset;
-        self.numbers.push(line.depth as i64)?;
-        self.numbers.push(after as i64)?;
-        self.numbers.push(line.header_len as i64)?;
-        self.numbers.push(line.len as i64)?;
+        self.numbers.push(number_of(line.depth))?;
+        self.numbers.push(number_of(after))?;
+        self.numbers.push(number_of(line.header_len))?;
+        self.numbers.push(number_of(line.len))?;
+        self.numbers.push(line.index.map_or(NONE, number_of))?;
         self.numbers
-            .push(line.index.map_or(NONE, |index| index as i64))?;
-        self.numbers.push(line.id.map_or(NONE, |id| id.0 as i64))?;
+            .push(line.id.map_or(NONE, |id| number_of(id.0)))?;
         if let Some(id) = line.id {
             if let Some(is_used) = self.types.get_mut(id.0) {
                 *is_used = true;
@@ -162,6 +162,11 @@ impl<'a> Listed<'a> {
         self.faults.push((offset, text))?;
         Ok(())
     }
+}
+
+/// Returns a number as the script has it.
+fn number_of(count: usize) -> i64 {
+    i64::try_from(count).unwrap_or(i64::MAX)
 }
 
 /// Lists the parts of a message of this type and of what it holds. Returns why it is refused, if it is.
