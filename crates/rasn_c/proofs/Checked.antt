@@ -12,11 +12,11 @@ use Rattle.rasn_lint.specs.Shown.{indices_of}
 use Rattle.rasn_c.specs.Schemas.{IsAsked}
 use Rattle.rasn_c.specs.Reasons.{IsStopBy}
 use Rattle.rasn_c.specs.Checking.{IsDepartedFrom, IsRefusedAt, IsUnreadBy, IsChecked, IsUncheckedBy, IsCheckedBy, IsStopped, opens_of}
-use Rattle.rasn_c.specs.declared.reasons.Stop.{Stop}
+use Rattle.rasn_c.specs.declared.reasons.CallStop.{CallStop}
 use Rattle.rasn_c.specs.declared.status.Status.{Status}
 use Rattle.rasn_c.specs.declared.status.Status.TheVariants.{Ok, Refused, OutOfMemory, BufferTooSmall, UnknownType, UnknownRule, BadSchema, UnknownPath, Absent}
 
-pub departed_from : (opens : OpenTypes) (schema : Schema) (root : TypeId) (message : List ℕ) (d : Departure) (stop : Stop) → IsOutOfMemory d.refusal.error.kind ⊎ IsFirstDeparture opens schema.types.items root.0 message (Some d)
+pub departed_from : (opens : OpenTypes) (schema : Schema) (root : TypeId) (message : List ℕ) (d : Departure) (stop : CallStop) → IsOutOfMemory d.refusal.error.kind ⊎ IsFirstDeparture opens schema.types.items root.0 message (Some d)
     → (status : Status) → stop.status ≡ status → IsStopBy schema root (indices_of d.inner) d.refusal stop status → IsDepartedFrom opens schema root message stop status
 departed_from opens schema root message d stop l Refused e h = (
   d,
@@ -35,7 +35,7 @@ departed_from opens schema root message d stop l BadSchema e h = absurd h
 departed_from opens schema root message d stop l UnknownPath e h = absurd h
 departed_from opens schema root message d stop l Absent e h = absurd h
 
-pub refused_at : (rule : Codec) (schema : Schema) (root : TypeId) (message : List ℕ) (r : Refusal) (stop : Stop) → IsRefusedAt rule schema.types.items root.0 message r
+pub refused_at : (rule : Codec) (schema : Schema) (root : TypeId) (message : List ℕ) (r : Refusal) (stop : CallStop) → IsRefusedAt rule schema.types.items root.0 message r
     → (status : Status) → stop.status ≡ status → IsStopBy schema root [] r stop status → IsUnreadBy rule schema root message stop status
 refused_at rule schema root message r stop at Refused e h = (r, at, subst (IsStopBy schema root [] r stop) (sym e) h)
 refused_at rule schema root message r stop at OutOfMemory e h = tt
@@ -48,7 +48,7 @@ refused_at rule schema root message r stop at UnknownPath e h = absurd h
 refused_at rule schema root message r stop at Absent e h = absurd h
 
 -- What holds of a check by the rules that a call asks for.
-pub checked_by : (octets : List ℕ) (number open_types : ℕ) (message : List ℕ) (schema : Schema) (root : TypeId) (asked rule : Codec) → IsAsked octets number schema root asked → asked ≡ rule → (r : Result (Unit {0}) Stop)
+pub checked_by : (octets : List ℕ) (number open_types : ℕ) (message : List ℕ) (schema : Schema) (root : TypeId) (asked rule : Codec) → IsAsked octets number schema root asked → asked ≡ rule → (r : Result (Unit {0}) CallStop)
     → MatchResult r (λ u. IsChecked rule (opens_of open_types) schema.types.items root.0 message) (λ stop. IsUncheckedBy rule (opens_of open_types) schema root message stop stop.status)
     → MatchResult r (λ u. IsCheckedBy octets number open_types message) (IsStopped octets number open_types message)
 checked_by octets number open_types message schema root asked rule a e (Made u) h = record {

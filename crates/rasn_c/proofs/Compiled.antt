@@ -11,7 +11,7 @@ use Rattle.rasn_schema_octets.specs.Octets.{IsSchemaOctets}
 use Rattle.rasn_c.specs.Compiling.{AreTexts, AreNoTexts, HasNoPoint, IsNameOf, IsSchemaOf, IsNoSchema, IsCompiled, IsNotCompiled}
 use Rattle.rasn_c.specs.Reasons.{IsStatusOr}
 use Rattle.rasn_c.specs.declared.compiling.Texts.{Texts}
-use Rattle.rasn_c.specs.declared.reasons.Stop.{Stop}
+use Rattle.rasn_c.specs.declared.reasons.CallStop.{CallStop}
 use Rattle.rasn_c.specs.declared.status.Status.{Status}
 use Rattle.rasn_c.specs.declared.status.Status.TheVariants.{Ok, Refused, OutOfMemory, BufferTooSmall, UnknownType, UnknownRule, BadSchema, UnknownPath, Absent}
 use Rattle.rasn_c.proofs.Ends.{by_status}
@@ -28,7 +28,7 @@ pub record Names (name : List ℕ) (schema : Schema) (root : TypeId) (type_name 
   pub names_are : schema.names ≡ Some names
   pub named : IsNamed names.items type_name root
 
-pub schema_made : (name : List ℕ) (schema : Schema) (root : TypeId) (unchecked : ℕ) (type_name : List ℕ) → Names name schema root type_name → (r : Result (Vec ℕ Global) Stop)
+pub schema_made : (name : List ℕ) (schema : Schema) (root : TypeId) (unchecked : ℕ) (type_name : List ℕ) → Names name schema root type_name → (r : Result (Vec ℕ Global) CallStop)
     → MatchResult r (λ v. IsSchemaOctets schema root unchecked v.items) (IsStatusOr Refused) → MatchResult r (λ v. IsSchemaOf name v.items) (λ stop. IsNoSchema stop.status)
 schema_made name schema root unchecked type_name n (Made v) h = record {
   schema = schema;
@@ -66,7 +66,7 @@ not_compiled texts name t u BadSchema h = absurd h
 not_compiled texts name t u UnknownPath h = absurd h
 not_compiled texts name t u Absent h = absurd h
 
-pub compiled : (texts : List Texts) (name : List ℕ) → AreTexts texts → IsUtf8 name → (r : Result (Vec ℕ Global) Stop) → MatchResult r (λ v. IsSchemaOf name v.items) (λ stop. IsNoSchema stop.status)
+pub compiled : (texts : List Texts) (name : List ℕ) → AreTexts texts → IsUtf8 name → (r : Result (Vec ℕ Global) CallStop) → MatchResult r (λ v. IsSchemaOf name v.items) (λ stop. IsNoSchema stop.status)
     → MatchResult r (λ v. IsCompiled texts name v.items) (λ stop. IsNotCompiled texts name stop.status)
 compiled texts name t u (Made v) h = (t, u, h)
 compiled texts name t u (Err stop) h = not_compiled texts name t u stop.status h

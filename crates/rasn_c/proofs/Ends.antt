@@ -13,16 +13,16 @@ use Rattle.rasn_c.specs.Schemas.{IsAsked}
 use Rattle.rasn_c.specs.Reasons.{IsPlain, IsStatusOr}
 use Rattle.rasn_c.specs.Checking.{IsUnreadBy}
 use Rattle.rasn_c.specs.Converting.{IsJson, IsNoJsonBy, IsNoNormalBy, IsNotNormalised}
-use Rattle.rasn_c.specs.declared.reasons.Stop.{Stop}
+use Rattle.rasn_c.specs.declared.reasons.CallStop.{CallStop}
 use Rattle.rasn_c.specs.declared.status.Status.{Status}
 use Rattle.rasn_c.specs.declared.status.Status.TheVariants.{Ok, Refused, OutOfMemory, BufferTooSmall, UnknownType, UnknownRule, BadSchema, UnknownPath, Absent}
 
 -- What holds of the status and of a failed allocation holds of an end with one of the two.
-pub by_status : (P : Status → Type 0) (stop : Stop) (status : Status) → IsStatusOr status stop → P status → P OutOfMemory → P stop.status
+pub by_status : (P : Status → Type 0) (stop : CallStop) (status : Status) → IsStatusOr status stop → P status → P OutOfMemory → P stop.status
 by_status P stop status (inl e) p m = subst P (sym e) p
 by_status P stop status (inr e) p m = subst P (sym e) m
 
-pub json_unread : (octets : List ℕ) (number : ℕ) (message : List ℕ) (stop : Stop) (schema : Schema) (root : TypeId) (rule : Codec) → IsAsked octets number schema root rule → (status : Status) → IsUnreadBy rule schema root message stop status → IsNoJsonBy octets number message stop status
+pub json_unread : (octets : List ℕ) (number : ℕ) (message : List ℕ) (stop : CallStop) (schema : Schema) (root : TypeId) (rule : Codec) → IsAsked octets number schema root rule → (status : Status) → IsUnreadBy rule schema root message stop status → IsNoJsonBy octets number message stop status
 json_unread octets number message stop schema root rule a Refused h = record {
   schema = schema;
   root = root;
@@ -39,7 +39,7 @@ json_unread octets number message stop schema root rule a BadSchema h = absurd h
 json_unread octets number message stop schema root rule a UnknownPath h = absurd h
 json_unread octets number message stop schema root rule a Absent h = absurd h
 
-pub normal_unread : (octets : List ℕ) (number : ℕ) (message : List ℕ) (stop : Stop) (schema : Schema) (root : TypeId) (rule : Codec) → IsNoNormalBy octets number message → (status : Status) → IsUnreadBy rule schema root message stop status → IsNotNormalised octets number message status
+pub normal_unread : (octets : List ℕ) (number : ℕ) (message : List ℕ) (stop : CallStop) (schema : Schema) (root : TypeId) (rule : Codec) → IsNoNormalBy octets number message → (status : Status) → IsUnreadBy rule schema root message stop status → IsNotNormalised octets number message status
 normal_unread octets number message stop schema root rule n Refused h = n
 normal_unread octets number message stop schema root rule n OutOfMemory h = tt
 normal_unread octets number message stop schema root rule n Ok h = absurd h
@@ -51,7 +51,7 @@ normal_unread octets number message stop schema root rule n UnknownPath h = absu
 normal_unread octets number message stop schema root rule n Absent h = absurd h
 
 -- JSON with a zero after it, if there is memory for it.
-pub text_of_json : (octets : List ℕ) (number lines : ℕ) (message text : List ℕ) → IsJson octets number lines message (text ++ 0 ∷ []) → (r : Result (Vec ℕ Global) Stop) → MatchResult r (λ v. v.items ≡ text ++ 0 ∷ []) (IsPlain OutOfMemory)
+pub text_of_json : (octets : List ℕ) (number lines : ℕ) (message text : List ℕ) → IsJson octets number lines message (text ++ 0 ∷ []) → (r : Result (Vec ℕ Global) CallStop) → MatchResult r (λ v. v.items ≡ text ++ 0 ∷ []) (IsPlain OutOfMemory)
     → MatchResult r (λ v. IsJson octets number lines message v.items) (λ stop. IsNoJsonBy octets number message stop stop.status)
 text_of_json octets number lines message text j (Made v) h = subst (IsJson octets number lines message) (sym h) j
 text_of_json octets number lines message text j (Err stop) h = subst (IsNoJsonBy octets number message stop) (sym h.0) tt

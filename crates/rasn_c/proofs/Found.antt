@@ -11,14 +11,14 @@ use Rattle.rasn_dynamic.specs.Steps.{IsWay, IsNoWay}
 use Rattle.rasn_dynamic.specs.Faults.{IsLocated}
 use Rattle.rasn_c.specs.Schemas.{IsAsked}
 use Rattle.rasn_c.specs.Reasons.{IsStopBy}
-use Rattle.rasn_c.specs.Paths.{AreStepsOf}
+use Rattle.rasn_dynamic.specs.PathText.{AreStepsOf}
 use Rattle.rasn_c.specs.Finding.{IsPathOf, HasNoPath, IsNoPath, IsNotFoundBy}
-use Rattle.rasn_c.proofs.PathTexts.{no_way, one_path}
-use Rattle.rasn_c.specs.declared.reasons.Stop.{Stop}
+use Rattle.rasn_dynamic.proofs.PathTexts.{no_way, one_path}
+use Rattle.rasn_c.specs.declared.reasons.CallStop.{CallStop}
 use Rattle.rasn_c.specs.declared.status.Status.{Status}
 use Rattle.rasn_c.specs.declared.status.Status.TheVariants.{Ok, Refused, OutOfMemory, BufferTooSmall, UnknownType, UnknownRule, BadSchema, UnknownPath, Absent}
 
-pub no_path : (octets : List ℕ) (number : ℕ) (message path : List ℕ) (stop : Stop) (schema : Schema) (root : TypeId) (rule : Codec) → IsAsked octets number schema root rule → (status : Status) → IsNoPath schema root path status → IsNotFoundBy octets number message path stop status
+pub no_path : (octets : List ℕ) (number : ℕ) (message path : List ℕ) (stop : CallStop) (schema : Schema) (root : TypeId) (rule : Codec) → IsAsked octets number schema root rule → (status : Status) → IsNoPath schema root path status → IsNotFoundBy octets number message path stop status
 no_path octets number message path stop schema root rule a UnknownPath h = record {
   schema = schema;
   root = root;
@@ -35,7 +35,7 @@ no_path octets number message path stop schema root rule a UnknownRule h = absur
 no_path octets number message path stop schema root rule a BadSchema h = absurd h
 no_path octets number message path stop schema root rule a Absent h = absurd h
 
-pub unread_on_way : (octets : List ℕ) (number : ℕ) (message path : List ℕ) (stop : Stop) (schema : Schema) (root : TypeId) (rule : Codec) (indices : List ℕ) (refusal : Refusal) → IsAsked octets number schema root rule → IsPathOf schema root path indices
+pub unread_on_way : (octets : List ℕ) (number : ℕ) (message path : List ℕ) (stop : CallStop) (schema : Schema) (root : TypeId) (rule : Codec) (indices : List ℕ) (refusal : Refusal) → IsAsked octets number schema root rule → IsPathOf schema root path indices
     → IsOutOfMemory refusal.error.kind ⊎ IsLocated schema.types.items rule root.0 message refusal → (status : Status) → stop.status ≡ status → IsStopBy schema root [] refusal stop status → IsNotFoundBy octets number message path stop status
 unread_on_way octets number message path stop schema root rule indices refusal a p l Refused e h = record {
   schema = schema;

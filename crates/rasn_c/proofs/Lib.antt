@@ -14,7 +14,6 @@ pub mod Placed
 pub mod FirstWith
 pub mod NameFilled
 pub mod Counted
-pub mod PathTexts
 pub mod Checked
 pub mod Asked
 pub mod WorkedWhole

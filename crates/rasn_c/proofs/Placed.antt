@@ -10,11 +10,11 @@ use Rattle.rasn_text.specs.Pem.{AreBefore, AreBlocksOf, begin}
 use Rattle.rasn_text.proofs.PemPlaces.{begins_at}
 use Rattle.rasn_c.specs.Buffers.{IsFilled}
 use Rattle.rasn_c.specs.Blocks.{IsPlaceOf, AreContentsPut, Holds, AnswersBlock}
-use Rattle.rasn_c.specs.declared.blocks.Place.{Place}
+use Rattle.rasn_c.specs.declared.blocks.BlockPlace.{BlockPlace}
 use Rattle.rasn_c.specs.declared.status.Status.{Status}
 use Rattle.rasn_c.specs.declared.status.Status.TheVariants.{Ok, Refused, OutOfMemory, BufferTooSmall, UnknownType, UnknownRule, BadSchema, UnknownPath, Absent}
 
-pub placed : (text : List ℕ) (bs : List Block) (index : ℕ) (b : Block) (p : Place) → AreBlocksOf text bs → slice_get bs index ≡ Some b
+pub placed : (text : List ℕ) (bs : List Block) (index : ℕ) (b : Block) (p : BlockPlace) → AreBlocksOf text bs → slice_get bs index ≡ Some b
     → ((front : List (List ℕ)) (rest : List ℕ) → AreBefore text front rest → length front + 1 ≡ b.line → p.label ≡ length text - length rest + 11)
     → p.label_length ≡ length b.label.now → p.line ≡ b.line → IsPlaceOf text b p
 placed text bs index b p are at starts l n =
@@ -34,7 +34,7 @@ placed text bs index b p are at starts l n =
       line = n ∙ sym k;
     }
 
-pub filled : (text : List ℕ) (index : ℕ) (p : Place) (octets : Vec ℕ Global) (old new : List ℕ) (needed : ℕ) (status : Status) → Holds text index p (Made octets) → IsFilled octets.items old new needed status
+pub filled : (text : List ℕ) (index : ℕ) (p : BlockPlace) (octets : Vec ℕ Global) (old new : List ℕ) (needed : ℕ) (status : Status) → Holds text index p (Made octets) → IsFilled octets.items old new needed status
     → AnswersBlock text index p old new needed status
 filled text index p octets old new needed Ok h f = (octets, h, f.0, f.1, f.2)
 filled text index p octets old new needed BufferTooSmall h f = (octets, h, f.0, f.1, f.2)
@@ -46,13 +46,13 @@ filled text index p octets old new needed BadSchema h f = absurd f
 filled text index p octets old new needed UnknownPath h f = absurd f
 filled text index p octets old new needed Absent h f = absurd f
 
-pub answered : (text : List ℕ) (index : ℕ) (p : Place) (contents : Result (Vec ℕ Global) PemError) (old new : List ℕ) (needed : ℕ) (status : Status) → Holds text index p contents
+pub answered : (text : List ℕ) (index : ℕ) (p : BlockPlace) (contents : Result (Vec ℕ Global) PemError) (old new : List ℕ) (needed : ℕ) (status : Status) → Holds text index p contents
     → AreContentsPut contents old new needed status → AnswersBlock text index p old new needed status
 answered text index p (Made octets) old new needed status h f = filled text index p octets old new needed status h f
 answered text index p (Err e) old new needed status h f = subst (λ s. AnswersBlock text index p old new needed s) (sym f.0) (e, h, f.1)
 
 -- The block that is found is the one with the index.
-pub held : (text : List ℕ) (found slice : List Block) (index : ℕ) (b : Block) (p : Place) → AreBlocksOf text found → slice ≡ found → index < length slice → b ≡ get_or slice index b
+pub held : (text : List ℕ) (found slice : List Block) (index : ℕ) (b : Block) (p : BlockPlace) → AreBlocksOf text found → slice ≡ found → index < length slice → b ≡ get_or slice index b
     → ((front : List (List ℕ)) (rest : List ℕ) → AreBefore text front rest → length front + 1 ≡ b.line → p.label ≡ length text - length rest + 11)
     → p.label_length ≡ length b.label.now → p.line ≡ b.line → Holds text index p b.contents
 held text found slice index b p are same within at starts l n =

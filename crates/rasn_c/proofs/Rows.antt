@@ -14,13 +14,13 @@ use Rattle.rasn_dynamic.specs.Faults.{IsLocated}
 use Rattle.rasn_dynamic.specs.declared.message.MessageParts.{MessageParts}
 use Rattle.rasn_dynamic.specs.declared.part.Part.{Part}
 use Rattle.rasn_dynamic.specs.declared.span.Span.{Span}
-use Rattle.rasn_dynamic.specs.Walk.{IsNextOf, depth_of}
+use Rattle.rasn_dynamic.specs.Walk.{IsNextOf}
 use Rattle.rasn_c.specs.Extents.{IsExtentOf}
 use Rattle.rasn_c.specs.Schemas.{IsAsked}
 use Rattle.rasn_c.specs.Reasons.{IsStopBy}
 use Rattle.rasn_c.specs.Listing.{IsRowOf, AreRows, IsNoListingBy}
 use Rattle.rasn_c.specs.declared.listing.ListedPart.{ListedPart}
-use Rattle.rasn_c.specs.declared.reasons.Stop.{Stop}
+use Rattle.rasn_c.specs.declared.reasons.CallStop.{CallStop}
 use Rattle.rasn_c.specs.declared.status.Status.{Status}
 use Rattle.rasn_c.specs.declared.status.Status.TheVariants.{Ok, Refused, OutOfMemory, BufferTooSmall, UnknownType, UnknownRule, BadSchema, UnknownPath, Absent}
 
@@ -40,7 +40,7 @@ one_more types input list rows i e r s row c rest h = subst (AreRows types input
 
 -- The row of the part to which the walk goes on.
 pub go_on : (types : List «Type») (old new : MessageParts) (p : Part) (s : Span) (rows more : List ListedPart) (r : ListedPart) → IsNextOf old (Some p) new → new.list ≡ old.list → new.input.now ≡ old.input.now → s ≡ get_or old.list.items old.next s
-    → IsExtentOf types p r.part → r.depth ≡ depth_of s → r.index ≡ s.index → more ≡ rows ++ r ∷ [] → Completes types old.input.now old.list.items old.next rows → Completes types new.input.now new.list.items new.next more
+    → IsExtentOf types p r.part → r.depth ≡ s.depth → r.index ≡ s.index → more ≡ rows ++ r ∷ [] → Completes types old.input.now old.list.items old.next rows → Completes types new.input.now new.list.items new.next more
 go_on types old new p s rows more r n list input at extent depth index m c =
     let same : s ≡ n.0 = at ∙ get_or_from_slice_get old.list.items old.next n.0 s (sym n.1) in
     let row : IsRowOf types old.input.now n.0 r = record {
@@ -50,7 +50,7 @@ go_on types old new p s rows more r n list input at extent depth index m c =
       offset = n.4;
       header = n.5;
       extent = extent;
-      depth = depth ∙ ap {A = Span} depth_of same;
+      depth = depth ∙ ap (λ (z : Span). z.depth) same;
       index = index ∙ ap {A = Span} (λ z. z.index) same;
     } in
     let here : Completes types old.input.now old.list.items (old.next + 1) (rows ++ r ∷ []) = one_more types old.input.now old.list.items rows old.next n.0 r n.1 row c in
@@ -62,7 +62,7 @@ unfolding AreRows
 all_rows types input list rows i h c = subst (AreRows types input list) (append-nil rows) (c [] (subst (λ z. AreRows types input z []) (sym (drop_all i list h)) tt))
 
 -- A message whose parts aren't listed.
-pub unlisted : (octets : List ℕ) (number : ℕ) (message : List ℕ) (stop : Stop) (schema : Schema) (root : TypeId) (rule : Codec) (refusal : Refusal) → IsAsked octets number schema root rule
+pub unlisted : (octets : List ℕ) (number : ℕ) (message : List ℕ) (stop : CallStop) (schema : Schema) (root : TypeId) (rule : Codec) (refusal : Refusal) → IsAsked octets number schema root rule
     → IsOutOfMemory refusal.error.kind ⊎ IsLocated schema.types.items rule root.0 message refusal → (status : Status) → stop.status ≡ status → IsStopBy schema root [] refusal stop status → IsNoListingBy octets number message stop status
 unlisted octets number message stop schema root rule refusal a l Refused e h = record {
   schema = schema;

@@ -8,10 +8,10 @@ use Rattle.rasn_dynamic.specs.declared.refusal.Refusal.{Refusal}
 use Rattle.rasn_c.specs.ErrorKinds.{kind_number}
 use Rattle.rasn_c.specs.Reasons.{IsNamedText, IsStopBy, IsStopOf, no_reason}
 use Rattle.rasn_c.specs.declared.reasons.Reason.{Reason}
-use Rattle.rasn_c.specs.declared.reasons.Stop.{Stop}
+use Rattle.rasn_c.specs.declared.reasons.CallStop.{CallStop}
 use Rattle.rasn_c.specs.declared.status.Status.TheVariants.{Refused}
 
-pub stops : (schema : Schema) (root : TypeId) (inner : List ℕ) (refusal : Refusal) (stop : Stop) (reason : Reason) (text : List ℕ) (n : ℕ) → (IsOutOfMemory refusal.error.kind → ⊥) → IsNamedText schema root inner refusal text n
+pub stops : (schema : Schema) (root : TypeId) (inner : List ℕ) (refusal : Refusal) (stop : CallStop) (reason : Reason) (text : List ℕ) (n : ℕ) → (IsOutOfMemory refusal.error.kind → ⊥) → IsNamedText schema root inner refusal text n
     → reason ≡ record no_reason { kind = kind_number refusal.error.kind; offset = refusal.offset; path_length = n } → stop.status ≡ Refused → stop.reason ≡ record reason { text_length = length text } → string_bytes stop.text ≡ text
     → IsStopOf schema root inner refusal stop
 stops schema root inner refusal stop reason text n m named r s w t = subst (IsStopBy schema root inner refusal stop) (sym s) (record {

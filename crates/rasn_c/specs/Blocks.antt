@@ -6,7 +6,7 @@ use Rattle.rasn_text.specs.declared.pem.PemError.{PemError}
 use Rattle.rasn_text.specs.Pem.{AreBlocksOf, AreBefore, begin}
 use Rattle.rasn_c.specs.Buffers.{written_over, IsFilled}
 use Rattle.rasn_c.specs.Leaves.{IsUnwritten}
-use Rattle.rasn_c.specs.declared.blocks.Place.{Place}
+use Rattle.rasn_c.specs.declared.blocks.BlockPlace.{BlockPlace}
 use Rattle.rasn_c.specs.declared.status.Status.{Status}
 use Rattle.rasn_c.specs.declared.status.Status.TheVariants.{Ok, Refused, OutOfMemory, BufferTooSmall, Absent}
 
@@ -15,7 +15,7 @@ abbrev pub IsBlockAt : List ℕ → ℕ → Block → Type 0
 IsBlockAt text index b = (bs : List Block) × AreBlocksOf text bs × (slice_get bs index ≡ Some b)
 
 -- After the lines before it, the text goes on with `-----BEGIN ` and the label.
-pub record IsPlaceOf (text : List ℕ) (b : Block) (p : Place) : Type 0 where
+pub record IsPlaceOf (text : List ℕ) (b : Block) (p : BlockPlace) : Type 0 where
   pub front : List (List ℕ)
   pub before : List ℕ
   pub after : List ℕ
@@ -25,7 +25,7 @@ pub record IsPlaceOf (text : List ℕ) (b : Block) (p : Place) : Type 0 where
   pub label_length : p.label_length ≡ length b.label.now
   pub line : p.line ≡ length front + 1
 
-abbrev pub no_place : Place
+abbrev pub no_place : BlockPlace
 no_place = record { label = 0; label_length = 0; line = 0 }
 
 -- The octets of a block are written to the buffer if they fit; a block without octets leaves it as it was.
@@ -34,10 +34,10 @@ AreContentsPut (Made octets) old new needed status = IsFilled octets.items old n
 AreContentsPut (Err e) old new needed status = (status ≡ Refused) × IsUnwritten old new needed
 
 -- The block, where it is, and what its lines encode.
-abbrev pub Holds : List ℕ → ℕ → Place → Result (Vec ℕ Global) PemError → Type 0
+abbrev pub Holds : List ℕ → ℕ → BlockPlace → Result (Vec ℕ Global) PemError → Type 0
 Holds text index p contents = (b : Block) × IsBlockAt text index b × IsPlaceOf text b p × (b.contents ≡ contents)
 
-abbrev pub AnswersBlock : List ℕ → ℕ → Place → List ℕ → List ℕ → ℕ → Status → Type 0
+abbrev pub AnswersBlock : List ℕ → ℕ → BlockPlace → List ℕ → List ℕ → ℕ → Status → Type 0
 AnswersBlock text index p old new needed Ok = (octets : Vec ℕ Global) × Holds text index p (Made octets) × (needed ≡ length octets.items) × (needed ≤ length old) × (new ≡ written_over octets.items old)
 AnswersBlock text index p old new needed BufferTooSmall = (octets : Vec ℕ Global) × Holds text index p (Made octets) × (needed ≡ length octets.items) × (length old < needed) × (new ≡ old)
 AnswersBlock text index p old new needed Refused = (e : PemError) × Holds text index p (Err e) × IsUnwritten old new needed

@@ -20,7 +20,7 @@ use Rattle.rasn_lint.specs.Shown.{indices_of}
 use Rattle.rasn_c.specs.Schemas.{IsAsked, IsNotAsked}
 use Rattle.rasn_c.specs.Reasons.{IsStopOf, IsReported}
 use Rattle.rasn_c.specs.declared.reasons.Reason.{Reason}
-use Rattle.rasn_c.specs.declared.reasons.Stop.{Stop}
+use Rattle.rasn_c.specs.declared.reasons.CallStop.{CallStop}
 use Rattle.rasn_c.specs.declared.status.Status.{Status}
 use Rattle.rasn_c.specs.declared.status.Status.TheVariants.{Ok, Refused, OutOfMemory}
 
@@ -58,18 +58,18 @@ IsChecked Der opens types id message = IsFirstDeparture opens types id message N
 IsChecked rule opens types id message = IsWhole rule types id message
 
 -- Octets that the reader refuses, or there is no memory to say why.
-abbrev pub IsUnreadBy : Codec → Schema → TypeId → List ℕ → Stop → Status → Type 0
+abbrev pub IsUnreadBy : Codec → Schema → TypeId → List ℕ → CallStop → Status → Type 0
 IsUnreadBy rule schema root message stop Refused = (r : Refusal) × IsRefusedAt rule schema.types.items root.0 message r × IsStopOf schema root [] r stop
 IsUnreadBy rule schema root message stop OutOfMemory = Unit {0}
 IsUnreadBy rule schema root message stop _ = ⊥
 
 -- The check doesn't pass, and this is where and why.
-abbrev pub IsDepartedFrom : OpenTypes → Schema → TypeId → List ℕ → Stop → Status → Type 0
+abbrev pub IsDepartedFrom : OpenTypes → Schema → TypeId → List ℕ → CallStop → Status → Type 0
 IsDepartedFrom opens schema root message stop Refused = (d : Departure) × IsFirstDeparture opens schema.types.items root.0 message (Some d) × IsStopOf schema root (indices_of d.inner) d.refusal stop
 IsDepartedFrom opens schema root message stop OutOfMemory = Unit {0}
 IsDepartedFrom opens schema root message stop _ = ⊥
 
-abbrev pub IsUncheckedBy : Codec → OpenTypes → Schema → TypeId → List ℕ → Stop → Status → Type 0
+abbrev pub IsUncheckedBy : Codec → OpenTypes → Schema → TypeId → List ℕ → CallStop → Status → Type 0
 IsUncheckedBy Der opens schema root message stop status = IsDepartedFrom opens schema root message stop status
 IsUncheckedBy rule opens schema root message stop status = IsUnreadBy rule schema root message stop status
 
@@ -81,7 +81,7 @@ pub record IsCheckedBy (octets : List ℕ) (number open_types : ℕ) (message : 
   pub asked : IsAsked octets number schema root rule
   pub checked : IsChecked rule (opens_of open_types) schema.types.items root.0 message
 
-pub record IsNotCheckedBy (octets : List ℕ) (number open_types : ℕ) (message : List ℕ) (stop : Stop) : Type 0 where
+pub record IsNotCheckedBy (octets : List ℕ) (number open_types : ℕ) (message : List ℕ) (stop : CallStop) : Type 0 where
   pub schema : Schema
   pub root : TypeId
   pub rule : Codec
@@ -89,7 +89,7 @@ pub record IsNotCheckedBy (octets : List ℕ) (number open_types : ℕ) (message
   pub unchecked : IsUncheckedBy rule (opens_of open_types) schema root message stop stop.status
 
 -- The check doesn't pass, or there is none.
-abbrev pub IsStopped : List ℕ → ℕ → ℕ → List ℕ → Stop → Type 0
+abbrev pub IsStopped : List ℕ → ℕ → ℕ → List ℕ → CallStop → Type 0
 IsStopped octets number open_types message stop = IsNotCheckedBy octets number open_types message stop ⊎ IsNotAsked octets number stop.status
 
 abbrev pub status_of : Result (Unit {0}) Status → Status
@@ -98,7 +98,7 @@ status_of (Err status) = status
 
 -- The status of the check.
 pub record AnswersCheckBy (octets : List ℕ) (number open_types : ℕ) (message : List ℕ) (reason : Reason) (old new : List ℕ) (status : Status) : Type 0 where
-  pub made : Result (Unit {0}) Stop
+  pub made : Result (Unit {0}) CallStop
   pub is : MatchResult made (λ u. IsCheckedBy octets number open_types message) (IsStopped octets number open_types message)
   pub answer : Result (Unit {0}) Status
   pub reported : IsReported made reason old new answer

@@ -15,7 +15,7 @@ use Rattle.rasn_c.specs.Schemas.{IsAsked, IsNotAsked}
 use Rattle.rasn_c.specs.Checking.{IsUnreadBy}
 use Rattle.rasn_c.specs.Reasons.{Delivers}
 use Rattle.rasn_c.specs.declared.reasons.Reason.{Reason}
-use Rattle.rasn_c.specs.declared.reasons.Stop.{Stop}
+use Rattle.rasn_c.specs.declared.reasons.CallStop.{CallStop}
 use Rattle.rasn_c.specs.declared.status.Status.{Status}
 use Rattle.rasn_c.specs.declared.status.Status.TheVariants.{Refused}
 
@@ -38,14 +38,14 @@ pub record IsJson (octets : List ℕ) (number lines : ℕ) (message made : List 
   pub text : made ≡ json ++ 0 ∷ []
 
 -- The message isn't read as a value of the type, and this is where and why; or its value has no JSON.
-pub record IsNoJson (octets : List ℕ) (number : ℕ) (message : List ℕ) (stop : Stop) : Type 0 where
+pub record IsNoJson (octets : List ℕ) (number : ℕ) (message : List ℕ) (stop : CallStop) : Type 0 where
   pub schema : Schema
   pub root : TypeId
   pub rule : Codec
   pub asked : IsAsked octets number schema root rule
   pub why : IsUnreadBy rule schema root message stop Refused ⊎ ((v : Value) × AnsweredAlone rule (shape_of schema.types.items root.0) tree_of message (Made v))
 
-abbrev pub IsNoJsonBy : List ℕ → ℕ → List ℕ → Stop → Status → Type 0
+abbrev pub IsNoJsonBy : List ℕ → ℕ → List ℕ → CallStop → Status → Type 0
 IsNoJsonBy octets number message stop Refused = IsNoJson octets number message stop
 IsNoJsonBy octets number message stop status = IsNotAsked octets number status
 

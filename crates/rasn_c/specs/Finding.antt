@@ -10,12 +10,12 @@ use Rattle.rasn_dynamic.specs.Faults.{IsLocated, start}
 use Rattle.rasn_dynamic.specs.Parts.{IsPartAt, LacksPath}
 use Rattle.rasn_dynamic.specs.Steps.{IsWay, IsNoWay}
 use Rattle.rasn_c.specs.Schemas.{IsAsked, IsNotAsked}
-use Rattle.rasn_c.specs.Paths.{AreStepsOf}
+use Rattle.rasn_dynamic.specs.PathText.{AreStepsOf}
 use Rattle.rasn_c.specs.Extents.{IsExtentOf, no_extent}
 use Rattle.rasn_c.specs.Reasons.{IsStopOf, IsReported}
 use Rattle.rasn_c.specs.declared.extent.Extent.{Extent}
 use Rattle.rasn_c.specs.declared.reasons.Reason.{Reason}
-use Rattle.rasn_c.specs.declared.reasons.Stop.{Stop}
+use Rattle.rasn_c.specs.declared.reasons.CallStop.{CallStop}
 use Rattle.rasn_c.specs.declared.status.Status.{Status}
 use Rattle.rasn_c.specs.declared.status.Status.TheVariants.{Ok, Refused, OutOfMemory, UnknownPath, Absent}
 
@@ -66,7 +66,7 @@ pub record IsUnknown (octets : List ℕ) (number : ℕ) (path : List ℕ) : Type
   pub none : HasNoPath schema root path
 
 -- The type has a part with this path, but a value of the message can't be read, and this is where and why.
-pub record IsUnreadOnWay (octets : List ℕ) (number : ℕ) (message path : List ℕ) (stop : Stop) : Type 0 where
+pub record IsUnreadOnWay (octets : List ℕ) (number : ℕ) (message path : List ℕ) (stop : CallStop) : Type 0 where
   pub schema : Schema
   pub root : TypeId
   pub rule : Codec
@@ -77,13 +77,13 @@ pub record IsUnreadOnWay (octets : List ℕ) (number : ℕ) (message path : List
   pub located : IsLocated schema.types.items rule root.0 message refusal
   pub stops : IsStopOf schema root [] refusal stop
 
-abbrev pub IsNotFoundBy : List ℕ → ℕ → List ℕ → List ℕ → Stop → Status → Type 0
+abbrev pub IsNotFoundBy : List ℕ → ℕ → List ℕ → List ℕ → CallStop → Status → Type 0
 IsNotFoundBy octets number message path stop Refused = IsUnreadOnWay octets number message path stop
 IsNotFoundBy octets number message path stop Absent = IsAbsent octets number message path
 IsNotFoundBy octets number message path stop UnknownPath = IsUnknown octets number path
 IsNotFoundBy octets number message path stop status = IsNotAsked octets number status
 
-abbrev pub IsNotFound : List ℕ → ℕ → List ℕ → List ℕ → Stop → Type 0
+abbrev pub IsNotFound : List ℕ → ℕ → List ℕ → List ℕ → CallStop → Type 0
 IsNotFound octets number message path stop = IsNotFoundBy octets number message path stop stop.status
 
 -- What the caller gets: a part or none, and the status.
@@ -93,7 +93,7 @@ IsGiven (Err why) part status = (part ≡ no_extent) × (status ≡ why)
 
 -- The status of a search for the part at the path.
 pub record AnswersFind (octets : List ℕ) (number : ℕ) (message path : List ℕ) (part : Extent) (reason : Reason) (old new : List ℕ) (status : Status) : Type 0 where
-  pub made : Result Extent Stop
+  pub made : Result Extent CallStop
   pub is : MatchResult made (IsFound octets number message path) (IsNotFound octets number message path)
   pub answer : Result Extent Status
   pub reported : IsReported made reason old new answer

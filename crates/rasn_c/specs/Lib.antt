@@ -11,7 +11,6 @@ pub mod Encodings
 pub mod Leaves
 pub mod Reasons
 pub mod Schemas
-pub mod Paths
 pub mod Extents
 pub mod Finding
 pub mod Days

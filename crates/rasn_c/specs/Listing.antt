@@ -10,7 +10,7 @@ use Rattle.rasn_dynamic.specs.declared.span.Span.{Span}
 use Rattle.rasn_dynamic.specs.declared.refusal.Refusal.{Refusal}
 use Rattle.rasn_dynamic.specs.Faults.{IsLocated}
 use Rattle.rasn_dynamic.specs.Parts.{IsPartHeader}
-use Rattle.rasn_dynamic.specs.Walk.{ArePartsOf, depth_of}
+use Rattle.rasn_dynamic.specs.Walk.{ArePartsOf}
 use Rattle.rasn_c.specs.Schemas.{IsAsked, IsNotAsked}
 use Rattle.rasn_c.specs.Extents.{IsExtentOf}
 use Rattle.rasn_c.specs.Reasons.{IsStopOf, IsReported}
@@ -18,7 +18,7 @@ use Rattle.rasn_c.specs.declared.listing.Counts.{Counts}
 use Rattle.rasn_c.specs.declared.listing.ListedPart.{ListedPart}
 use Rattle.rasn_c.specs.declared.listing.Listing.{Listing}
 use Rattle.rasn_c.specs.declared.reasons.Reason.{Reason}
-use Rattle.rasn_c.specs.declared.reasons.Stop.{Stop}
+use Rattle.rasn_c.specs.declared.reasons.CallStop.{CallStop}
 use Rattle.rasn_c.specs.declared.status.Status.{Status}
 use Rattle.rasn_c.specs.declared.status.Status.TheVariants.{Ok, Refused, BufferTooSmall}
 
@@ -30,7 +30,7 @@ pub record IsRowOf (types : List «Type») (input : List ℕ) (e : Span) (r : Li
   pub offset : part.offset ≡ length input - e.left
   pub header : IsPartHeader e.octets.now part.header_len part.is_indefinite
   pub extent : IsExtentOf types part r.part
-  pub depth : r.depth ≡ depth_of e
+  pub depth : r.depth ≡ e.depth
   pub index : r.index ≡ e.index
 
 -- There is a row for each part, in their order.
@@ -50,7 +50,7 @@ pub record IsListing (octets : List ℕ) (number : ℕ) (message : List ℕ) (ro
   pub rows_are : AreRows schema.types.items message parts.list.items rows
 
 -- A value of the message can't be read, and this is where and why.
-pub record IsUnreadable (octets : List ℕ) (number : ℕ) (message : List ℕ) (stop : Stop) : Type 0 where
+pub record IsUnreadable (octets : List ℕ) (number : ℕ) (message : List ℕ) (stop : CallStop) : Type 0 where
   pub schema : Schema
   pub root : TypeId
   pub rule : Codec
@@ -59,7 +59,7 @@ pub record IsUnreadable (octets : List ℕ) (number : ℕ) (message : List ℕ) 
   pub located : IsLocated schema.types.items rule root.0 message refusal
   pub stops : IsStopOf schema root [] refusal stop
 
-abbrev pub IsNoListingBy : List ℕ → ℕ → List ℕ → Stop → Status → Type 0
+abbrev pub IsNoListingBy : List ℕ → ℕ → List ℕ → CallStop → Status → Type 0
 IsNoListingBy octets number message stop Refused = IsUnreadable octets number message stop
 IsNoListingBy octets number message stop status = IsNotAsked octets number status
 
@@ -78,7 +78,7 @@ IsListedInto (Err why) old new old_names new_names counts status = (status ≡ w
 
 -- The status of listing the parts.
 pub record AnswersParts (octets : List ℕ) (number : ℕ) (message : List ℕ) (old new : List ListedPart) (old_names new_names : List ℕ) (counts : Counts) (reason : Reason) (old_text new_text : List ℕ) (status : Status) : Type 0 where
-  pub made : Result Listing Stop
+  pub made : Result Listing CallStop
   pub is : MatchResult made (λ l. IsListing octets number message l.parts.items) (λ stop. IsNoListingBy octets number message stop stop.status)
   pub answer : Result Listing Status
   pub reported : IsReported made reason old_text new_text answer

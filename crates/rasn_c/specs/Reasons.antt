@@ -9,7 +9,7 @@ use Rattle.rasn_dynamic.specs.Shown.{shown_refusal, shown_way, way_text}
 use Rattle.rasn_c.specs.Buffers.{IsCutInto, IsDelivered}
 use Rattle.rasn_c.specs.ErrorKinds.{kind_number}
 use Rattle.rasn_c.specs.declared.reasons.Reason.{Reason}
-use Rattle.rasn_c.specs.declared.reasons.Stop.{Stop}
+use Rattle.rasn_c.specs.declared.reasons.CallStop.{CallStop}
 use Rattle.rasn_c.specs.declared.status.Status.{Status}
 use Rattle.rasn_c.specs.declared.status.Status.TheVariants.{Refused, OutOfMemory}
 
@@ -18,11 +18,11 @@ abbrev pub no_reason : Reason
 no_reason = record { kind = 0; line = 0; column = 0; offset = 0; path_length = 0; text_length = 0 }
 
 -- Nothing is reported but the status.
-abbrev pub IsPlain : Status → Stop → Type 0
+abbrev pub IsPlain : Status → CallStop → Type 0
 IsPlain status stop = (stop.status ≡ status) × (stop.reason ≡ no_reason) × (string_bytes stop.text ≡ [])
 
 -- The status is this one, or that of a failed allocation.
-abbrev pub IsStatusOr : Status → Stop → Type 0
+abbrev pub IsStatusOr : Status → CallStop → Type 0
 IsStatusOr status stop = (stop.status ≡ status) ⊎ (stop.status ≡ OutOfMemory)
 
 -- The text is that of the refusal, after the names on the way from the type and the indices on the way inside an open type. So many octets precede the refusal's own.
@@ -43,22 +43,22 @@ pub record IsReasonOf (schema : Schema) (root : TypeId) (inner : List ℕ) (refu
   pub text_length : reason.text_length ≡ length text
 
 -- The end for a refusal with a status: its reason, or a failed allocation, which may also be that of the text.
-abbrev pub IsStopBy : Schema → TypeId → List ℕ → Refusal → Stop → Status → Type 0
+abbrev pub IsStopBy : Schema → TypeId → List ℕ → Refusal → CallStop → Status → Type 0
 IsStopBy schema root inner refusal stop Refused = IsReasonOf schema root inner refusal stop.reason (string_bytes stop.text)
 IsStopBy schema root inner refusal stop OutOfMemory = Unit {0}
 IsStopBy schema root inner refusal stop _ = ⊥
 
-abbrev pub IsStopOf : Schema → TypeId → List ℕ → Refusal → Stop → Type 0
+abbrev pub IsStopOf : Schema → TypeId → List ℕ → Refusal → CallStop → Type 0
 IsStopOf schema root inner refusal stop = IsStopBy schema root inner refusal stop stop.status
 
 -- What is reported of a call: nothing if it has a result, and else the reason, with as much of its text as fits.
-abbrev pub IsReported : {T : Type 0} → Result T Stop → Reason → List ℕ → List ℕ → Result T Status → Type 0
+abbrev pub IsReported : {T : Type 0} → Result T CallStop → Reason → List ℕ → List ℕ → Result T Status → Type 0
 IsReported (Made v) reason old new answer = (answer ≡ Made v) × (reason ≡ no_reason) × IsCutInto [] old new
 IsReported (Err stop) reason old new answer = (answer ≡ Err stop.status) × (reason ≡ stop.reason) × IsCutInto (string_bytes stop.text) old new
 
 -- A call makes octets for which `Is` holds, and leaves them in the buffer if they fit; or it ends as `IsNot` says.
-pub record Delivers (Is : List ℕ → Type 0) (IsNot : Stop → Type 0) (reason : Reason) (old_text new_text old new : List ℕ) (needed : ℕ) (status : Status) : Type 0 where
-  pub made : Result (Vec ℕ Global) Stop
+pub record Delivers (Is : List ℕ → Type 0) (IsNot : CallStop → Type 0) (reason : Reason) (old_text new_text old new : List ℕ) (needed : ℕ) (status : Status) : Type 0 where
+  pub made : Result (Vec ℕ Global) CallStop
   pub is : MatchResult made (λ v. Is v.items) IsNot
   pub answer : Result (Vec ℕ Global) Status
   pub reported : IsReported made reason old_text new_text answer

@@ -12,7 +12,7 @@ use std::alloc::Global;
 /// Where a block of PEM is in a text: `soq_block` of the header.
 #[repr(C)]
 #[derive(Clone, Copy, Debug, PartialEq, Eq)]
-pub struct Place {
+pub struct BlockPlace {
     /// Where its label begins, in octets from the start of the text.
     pub label: usize,
     /// How many octets its label has.
@@ -22,7 +22,7 @@ pub struct Place {
 }
 
 /// There is no block.
-const NO_PLACE: Place = Place {
+const NO_PLACE: BlockPlace = BlockPlace {
     label: 0,
     label_length: 0,
     line: 0,
@@ -39,7 +39,7 @@ pub extern "C" fn soq_proved_pem(
     alloc: Global,
     text: &[u8],
     index: usize,
-    place: &mut Place,
+    place: &mut BlockPlace,
     buffer: &mut [u8],
     needed: &mut usize,
 ) -> u32
@@ -52,7 +52,7 @@ fn put_block(
     alloc: Global,
     text: &[u8],
     index: usize,
-    place: &mut Place,
+    place: &mut BlockPlace,
     buffer: &mut [u8],
     needed: &mut usize,
 ) -> Status
@@ -88,12 +88,12 @@ fn put_contents(
 }
 
 /// Returns where a block of this text is.
-fn place_of(text: &[u8], block: &Block<'_>) -> Place
+fn place_of(text: &[u8], block: &Block<'_>) -> BlockPlace
     ensures label { (front : List (List ℕ)) (rest : List ℕ) → AreBefore text.now front rest → length front + 1 ≡ block.now.line → result.label ≡ length text.now - length rest + 11 }
     ensures length { result.label_length ≡ length block.now.label.now }
     ensures line { result.line ≡ block.now.line }
 {
-    Place {
+    BlockPlace {
         label: line_start(text, block.line) + BEFORE_LABEL,
         label_length: block.label.len(),
         line: block.line,

@@ -5,7 +5,7 @@ ghost use Rattle.rasn_lint.specs.Shown.{indices_of};
 ghost use Rattle.rasn_c.specs.Status.{IsNumberOf};
 ghost use Rattle.rasn_c.specs.Checking.{AnswersCheckBy, IsCheckedBy, IsStopped, IsChecked, IsUncheckedBy, IsWhole, IsRefusedAt, IsUnreadBy, opens_of, status_of};
 
-use crate::reasons::{Reason, Stop, report};
+use crate::reasons::{CallStop, Reason, report};
 use crate::schemas::{Query, query_of};
 use crate::status::Status;
 use rasn::refuse_remainder;
@@ -48,7 +48,7 @@ fn check_by(
     rule: u32,
     open_types: u32,
     octets: &[u8],
-) -> Result<(), Stop>
+) -> Result<(), CallStop>
     ensures { MatchResult result (λ u. IsCheckedBy schema.now rule open_types octets.now) (IsStopped schema.now rule open_types octets.now) }
 {
     let asked = query_of(alloc, schema, rule)?;
@@ -67,7 +67,7 @@ fn check_der(
     root: TypeId,
     open_types: u32,
     octets: &[u8],
-) -> Result<(), Stop>
+) -> Result<(), CallStop>
     ensures { MatchResult result (λ u. IsChecked Der (opens_of open_types) schema.now.types.items root.0 octets.now) (λ stop. IsUncheckedBy Der (opens_of open_types) schema.now root octets.now stop stop.status) }
 {
     match check(alloc, schema, root, octets, open_types_of(open_types)) {
@@ -75,7 +75,7 @@ fn check_der(
         Err(departure) => {
             let inner = indices_of(&departure.inner);
             let refusal = &departure.refusal;
-            Err(Stop::of_refusal(alloc, schema, root, inner, refusal))
+            Err(CallStop::of_refusal(alloc, schema, root, inner, refusal))
         }
     }
 }
@@ -97,12 +97,12 @@ fn check_whole(
     schema: &Schema,
     root: TypeId,
     octets: &[u8],
-) -> Result<(), Stop>
+) -> Result<(), CallStop>
     ensures { MatchResult result (λ u. IsWhole rule schema.now.types.items root.0 octets.now) (λ stop. IsUnreadBy rule schema.now root octets.now stop stop.status) }
 {
     match refusal_of(alloc, rule, schema, root, octets) {
         None => Ok(()),
-        Some(refusal) => Err(Stop::of_refusal(alloc, schema, root, &[], &refusal)),
+        Some(refusal) => Err(CallStop::of_refusal(alloc, schema, root, &[], &refusal)),
     }
 }
 
@@ -149,12 +149,12 @@ pub(crate) fn unread_stop(
     schema: &Schema,
     root: TypeId,
     octets: &[u8],
-) -> Stop
+) -> CallStop
     ensures { IsUnreadBy rule schema.now root octets.now result result.status }
 {
     match refusal_of(alloc, rule, schema, root, octets) {
-        Some(refusal) => Stop::of_refusal(alloc, schema, root, &[], &refusal),
+        Some(refusal) => CallStop::of_refusal(alloc, schema, root, &[], &refusal),
         // Only memory was missing.
-        None => Stop::plain(alloc, Status::OutOfMemory),
+        None => CallStop::plain(alloc, Status::OutOfMemory),
     }
 }

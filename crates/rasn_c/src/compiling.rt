@@ -7,9 +7,9 @@ ghost use Rattle.rasn_c.specs.Reasons.{IsStatusOr};
 ghost use Rattle.rasn_c.specs.Compiling.{AnswersCompile, AreTexts, AreNoTexts, IsText, IsCompiled, IsNotCompiled, IsSchemaOf, IsNoSchema, IsNameOf};
 
 use crate::buffers::deliver;
-use crate::reasons::{NO_REASON, Reason, Stop, report, stop_of, without_memory};
+use crate::reasons::{CallStop, NO_REASON, Reason, report, stop_of, without_memory};
 use crate::status::Status;
-use rasn_compiler::{Assigned, Fault, Module, Modules, Resolved, Source, Stop as CompilerStop};
+use rasn_compiler::{Assigned, Fault, Module, Modules, Resolved, Source, Stop};
 use rasn_schema_octets::{WriteFault, write};
 use std::alloc::{AllocError, Global};
 use std::str;
@@ -42,7 +42,7 @@ pub extern "C" fn soq_proved_compile(
 }
 
 /// Returns the octets of the schema of a type of these modules.
-fn schema_octets(alloc: Global, texts: &[Texts<'_>], name: &[u8]) -> Result<Vec<u8>, Stop>
+fn schema_octets(alloc: Global, texts: &[Texts<'_>], name: &[u8]) -> Result<Vec<u8>, CallStop>
     ensures { MatchResult result (λ v. IsCompiled texts.now name.now v.items) (λ stop. IsNotCompiled texts.now name.now stop.status) }
 {
     let sources = match sources_of(alloc, texts) {
@@ -64,7 +64,7 @@ fn schema_octets(alloc: Global, texts: &[Texts<'_>], name: &[u8]) -> Result<Vec<
 }
 
 /// Returns the octets of the schema of a type of these modules, which have no faults.
-fn schema_of(alloc: Global, read: &Modules<'_>, name: &str) -> Result<Vec<u8>, Stop>
+fn schema_of(alloc: Global, read: &Modules<'_>, name: &str) -> Result<Vec<u8>, CallStop>
     ensures { MatchResult result (λ v. IsSchemaOf name.now v.items) (λ stop. IsNoSchema stop.status) }
 {
     let (module, type_name) = names_in(name);
@@ -74,8 +74,8 @@ fn schema_of(alloc: Global, read: &Modules<'_>, name: &str) -> Result<Vec<u8>, S
     };
     match read.schema(alloc, module, type_name) {
         Ok(resolved) => octets_of(alloc, &resolved),
-        Err(CompilerStop::OutOfMemory) => Err(Stop::plain(alloc, Status::OutOfMemory)),
-        Err(CompilerStop::Fault(fault)) => Err(faults_stop(alloc, &fault, &[fault])),
+        Err(Stop::OutOfMemory) => Err(CallStop::plain(alloc, Status::OutOfMemory)),
+        Err(Stop::Fault(fault)) => Err(faults_stop(alloc, &fault, &[fault])),
     }
 }
 
@@ -90,7 +90,7 @@ fn names_in(name: &str) -> (Option<&str>, &str)
 }
 
 /// Returns the texts, each with its name.
-fn sources_of<'a>(alloc: Global, texts: &[Texts<'a>]) -> Result<Vec<Source<'a>>, Stop>
+fn sources_of<'a>(alloc: Global, texts: &[Texts<'a>]) -> Result<Vec<Source<'a>>, CallStop>
     ensures { MatchResult result (λ sources. AreTexts texts.now) (λ stop. AreNoTexts texts.now stop.status) }
 {
     let mut sources = Vec::new(alloc);
@@ -100,7 +100,7 @@ fn sources_of<'a>(alloc: Global, texts: &[Texts<'a>]) -> Result<Vec<Source<'a>>,
             return Err(stop_of(alloc, Status::Refused, text));
         };
         if sources.push(source).is_err() {
-            return Err(Stop::plain(alloc, Status::OutOfMemory));
+            return Err(CallStop::plain(alloc, Status::OutOfMemory));
         }
     }
     Ok(sources)
@@ -118,7 +118,7 @@ fn source_of<'a>(text: &Texts<'a>) -> Option<Source<'a>>
 }
 
 /// Returns the octets of a schema.
-fn octets_of(alloc: Global, resolved: &Resolved) -> Result<Vec<u8>, Stop>
+fn octets_of(alloc: Global, resolved: &Resolved) -> Result<Vec<u8>, CallStop>
     ensures { MatchResult result (λ v. IsSchemaOctets resolved.now.schema resolved.now.root resolved.now.unchecked v.items) (IsStatusOr Refused) }
 {
     let Resolved {
@@ -128,23 +128,23 @@ fn octets_of(alloc: Global, resolved: &Resolved) -> Result<Vec<u8>, Stop>
     } = resolved;
     match write(alloc, schema, *root, *unchecked) {
         Ok(octets) => Ok(octets),
-        Err(WriteFault::OutOfMemory) => Err(Stop::plain(alloc, Status::OutOfMemory)),
+        Err(WriteFault::OutOfMemory) => Err(CallStop::plain(alloc, Status::OutOfMemory)),
         Err(fault) => match format!(in alloc; "{fault}") {
-            Ok(text) => Err(Stop::of_text(Status::Refused, NO_REASON, text)),
+            Ok(text) => Err(CallStop::of_text(Status::Refused, NO_REASON, text)),
             Err(error) => Err(without_memory(alloc, error)),
         },
     }
 }
 
 /// Returns the end for modules with these faults: their lines, and the place of the first.
-fn faults_stop(alloc: Global, first: &Fault<'_>, faults: &[Fault<'_>]) -> Stop
+fn faults_stop(alloc: Global, first: &Fault<'_>, faults: &[Fault<'_>]) -> CallStop
     ensures { IsStatusOr Refused result }
 {
     let mut reason = NO_REASON;
     reason.line = first.position.line;
     reason.column = first.position.column;
     match lines_of(alloc, faults) {
-        Ok(text) => Stop::of_text(Status::Refused, reason, text),
+        Ok(text) => CallStop::of_text(Status::Refused, reason, text),
         Err(error) => without_memory(alloc, error),
     }
 }

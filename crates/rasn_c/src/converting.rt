@@ -7,7 +7,7 @@ ghost use Rattle.rasn_c.specs.Converting.{AnswersJson, AnswersEncode, AnswersNor
 
 use crate::buffers::deliver;
 use crate::checking::unread_stop;
-use crate::reasons::{NO_REASON, Reason, Stop, path_length, report, stop_of, without_memory};
+use crate::reasons::{CallStop, NO_REASON, Reason, path_length, report, stop_of, without_memory};
 use crate::schemas::{Query, query_of};
 use crate::status::Status;
 use rasn::NormaliseError;
@@ -43,7 +43,7 @@ fn json_by(
     rule: u32,
     lines: u32,
     octets: &[u8],
-) -> Result<Vec<u8>, Stop>
+) -> Result<Vec<u8>, CallStop>
     ensures { MatchResult result (λ v. IsJson schema.now rule lines octets.now v.items) (λ stop. IsNoJsonBy schema.now rule octets.now stop stop.status) }
 {
     let Query { schema, root, rule } = query_of(alloc, schema, rule)?;
@@ -66,13 +66,13 @@ fn layout_of(lines: u32) -> Layout
 }
 
 /// Returns the octets with a zero after them.
-fn with_zero(alloc: Global, octets: Vec<u8>) -> Result<Vec<u8>, Stop>
+fn with_zero(alloc: Global, octets: Vec<u8>) -> Result<Vec<u8>, CallStop>
     ensures { MatchResult result (λ v. v.items ≡ octets.items ++ 0 ∷ []) (IsPlain OutOfMemory) }
 {
     let mut octets = octets;
     match octets.push(0) {
         Ok(()) => Ok(octets),
-        Err(_) => Err(Stop::plain(alloc, Status::OutOfMemory)),
+        Err(_) => Err(CallStop::plain(alloc, Status::OutOfMemory)),
     }
 }
 
@@ -96,7 +96,7 @@ pub extern "C" fn soq_proved_encode(
 }
 
 /// Returns the octets of the value of a JSON text.
-fn encode_by(alloc: Global, schema: &[u8], rule: u32, json: &[u8]) -> Result<Vec<u8>, Stop>
+fn encode_by(alloc: Global, schema: &[u8], rule: u32, json: &[u8]) -> Result<Vec<u8>, CallStop>
     ensures { MatchResult result (λ v. IsEncodedFrom schema.now rule json.now v.items) (λ stop. IsNotEncodedBy schema.now rule stop.status) }
 {
     let Query { schema, root, rule } = query_of(alloc, schema, rule)?;
@@ -111,15 +111,15 @@ fn encode_by(alloc: Global, schema: &[u8], rule: u32, json: &[u8]) -> Result<Vec
 }
 
 /// Returns the end for JSON that is refused, or for a value that has none.
-fn json_stop(alloc: Global, error: &JsonError) -> Stop
+fn json_stop(alloc: Global, error: &JsonError) -> CallStop
     ensures { IsStatusOr Refused result }
 {
     if error.is_out_of_memory() {
-        return Stop::plain(alloc, Status::OutOfMemory);
+        return CallStop::plain(alloc, Status::OutOfMemory);
     }
     let kind = &error.kind;
     let (Ok(text), Ok(own)) = (format!(in alloc; "{error}"), format!(in alloc; "{kind}")) else {
-        return Stop::plain(alloc, Status::OutOfMemory);
+        return CallStop::plain(alloc, Status::OutOfMemory);
     };
     let mut reason = NO_REASON;
     reason.path_length = path_length(text.len(), own.len());
@@ -129,20 +129,20 @@ fn json_stop(alloc: Global, error: &JsonError) -> Stop
         reason.line = u32::try_from(*line).unwrap_or(u32::MAX);
         reason.column = u32::try_from(*column).unwrap_or(u32::MAX);
     }
-    Stop::of_text(Status::Refused, reason, text)
+    CallStop::of_text(Status::Refused, reason, text)
 }
 
 /// Returns the end for a value that isn't written.
-fn write_stop(alloc: Global, error: &WriteError) -> Stop
+fn write_stop(alloc: Global, error: &WriteError) -> CallStop
     ensures { IsStatusOr Refused result }
 {
     if let WriteError::Encode(inner) = error {
         if inner.is_out_of_memory() {
-            return Stop::plain(alloc, Status::OutOfMemory);
+            return CallStop::plain(alloc, Status::OutOfMemory);
         }
     }
     match format!(in alloc; "{error}") {
-        Ok(text) => Stop::of_text(Status::Refused, NO_REASON, text),
+        Ok(text) => CallStop::of_text(Status::Refused, NO_REASON, text),
         Err(error) => without_memory(alloc, error),
     }
 }
@@ -166,16 +166,16 @@ pub extern "C" fn soq_proved_normalise_by(
 }
 
 /// Returns the DER octets of a message.
-fn normalise_by(alloc: Global, schema: &[u8], rule: u32, octets: &[u8]) -> Result<Vec<u8>, Stop>
+fn normalise_by(alloc: Global, schema: &[u8], rule: u32, octets: &[u8]) -> Result<Vec<u8>, CallStop>
     ensures { MatchResult result (λ v. IsNormalBy schema.now rule octets.now v.items) (λ stop. IsNotNormalised schema.now rule octets.now stop.status) }
 {
     let Query { schema, root, rule } = query_of(alloc, schema, rule)?;
     match normalise(alloc, rule, &schema, root, octets) {
         Ok(normal) => Ok(normal),
-        Err(error) if error.is_out_of_memory() => Err(Stop::plain(alloc, Status::OutOfMemory)),
+        Err(error) if error.is_out_of_memory() => Err(CallStop::plain(alloc, Status::OutOfMemory)),
         Err(NormaliseError::Decode(_)) => Err(unread_stop(alloc, rule, &schema, root, octets)),
         Err(error) => match format!(in alloc; "{error}") {
-            Ok(text) => Err(Stop::of_text(Status::Refused, NO_REASON, text)),
+            Ok(text) => Err(CallStop::of_text(Status::Refused, NO_REASON, text)),
             Err(error) => Err(without_memory(alloc, error)),
         },
     }

@@ -4,11 +4,10 @@ ghost use Rattle.rasn_c.specs.Status.{IsNumberOf};
 ghost use Rattle.rasn_c.specs.Finding.{AnswersFind, IsFound, IsNotFound, IsPathOf, IsNoPath, IsGiven};
 
 use crate::extent::{Extent, NO_EXTENT, extent_of};
-use crate::paths::steps_of;
-use crate::reasons::{Reason, Stop, report, stop_of, without_memory};
+use crate::reasons::{CallStop, Reason, report, stop_of, without_memory};
 use crate::schemas::{Query, query_of};
 use crate::status::Status;
-use rasn_dynamic::{find_part, path_named};
+use rasn_dynamic::{find_part, path_named, steps_of};
 use std::alloc::Global;
 use std::str;
 
@@ -47,7 +46,13 @@ fn put_extent(made: Result<Extent, Status>, part: &mut Extent) -> Status
     }
 }
 
-fn find(alloc: Global, schema: &[u8], rule: u32, octets: &[u8], path: &[u8]) -> Result<Extent, Stop>
+fn find(
+    alloc: Global,
+    schema: &[u8],
+    rule: u32,
+    octets: &[u8],
+    path: &[u8],
+) -> Result<Extent, CallStop>
     ensures { MatchResult result (IsFound schema.now rule octets.now path.now) (IsNotFound schema.now rule octets.now path.now) }
 {
     let asked = query_of(alloc, schema, rule)?;
@@ -55,13 +60,13 @@ fn find(alloc: Global, schema: &[u8], rule: u32, octets: &[u8], path: &[u8]) -> 
     let Query { schema, root, rule } = asked;
     match find_part(alloc, rule, &schema, root, octets, indices.as_slice()) {
         Ok(Some(part)) => Ok(extent_of(alloc, &schema, &part)),
-        Ok(None) => Err(Stop::plain(alloc, Status::Absent)),
-        Err(refusal) => Err(Stop::of_refusal(alloc, &schema, root, &[], &refusal)),
+        Ok(None) => Err(CallStop::plain(alloc, Status::Absent)),
+        Err(refusal) => Err(CallStop::of_refusal(alloc, &schema, root, &[], &refusal)),
     }
 }
 
 /// Returns the index of each part on the way.
-fn indices_of(alloc: Global, asked: &Query, path: &[u8]) -> Result<Vec<usize>, Stop>
+fn indices_of(alloc: Global, asked: &Query, path: &[u8]) -> Result<Vec<usize>, CallStop>
     ensures { MatchResult result (λ indices. IsPathOf asked.now.schema asked.now.root path.now indices.items) (λ stop. IsNoPath asked.now.schema asked.now.root path.now stop.status) }
 {
     let Ok(text) = str::from_utf8(path) else {

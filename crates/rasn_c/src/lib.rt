@@ -23,7 +23,6 @@ mod leaves;
 mod listing;
 mod names;
 mod normal;
-mod paths;
 mod reading;
 mod reasons;
 mod rules;

@@ -6,7 +6,7 @@ ghost use Rattle.rasn_c.specs.declared.listing.ListedPart.{ListedPart};
 ghost use Rattle.rasn_c.specs.Listing.{AnswersParts, IsListing, IsNoListingBy, IsListedInto, IsPutListing, AreRows};
 
 use crate::extent::{Extent, extent_of};
-use crate::reasons::{Reason, Stop, report, without_memory};
+use crate::reasons::{CallStop, Reason, report, without_memory};
 use crate::schemas::{Query, query_of};
 use crate::status::Status;
 use rasn_dynamic::{MessageParts, Part, parts_of};
@@ -108,14 +108,14 @@ fn put_listing(
     Status::Ok
 }
 
-fn list(alloc: Global, schema: &[u8], rule: u32, octets: &[u8]) -> Result<Listing, Stop>
+fn list(alloc: Global, schema: &[u8], rule: u32, octets: &[u8]) -> Result<Listing, CallStop>
     ensures { MatchResult result (λ l. IsListing schema.now rule octets.now l.parts.items) (λ stop. IsNoListingBy schema.now rule octets.now stop stop.status) }
 {
     let asked = query_of(alloc, schema, rule)?;
     let Query { schema, root, rule } = asked;
     let mut parts = match parts_of(alloc, rule, &schema, root, octets) {
         Ok(parts) => parts,
-        Err(refusal) => return Err(Stop::of_refusal(alloc, &schema, root, &[], &refusal)),
+        Err(refusal) => return Err(CallStop::of_refusal(alloc, &schema, root, &[], &refusal)),
     };
     match listing_of(alloc, &schema, root, &mut parts) {
         Ok(listing) => Ok(listing),
@@ -139,7 +139,7 @@ fn listing_of(
     };
     'walk: while parts.next < parts.list.len() {
         let span = &parts.list[parts.next];
-        let (depth, index) = (usize::MAX - span.levels, span.index);
+        let (depth, index) = (span.depth, span.index);
         let Ok(Some(part)) = parts.next(alloc) else {
             return Err(AllocError);
         };

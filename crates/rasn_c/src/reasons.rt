@@ -41,18 +41,18 @@ pub(crate) const NO_REASON: Reason = Reason {
 
 /// The end of a call that has no result.
 #[derive(Debug, Drop)]
-pub(crate) struct Stop {
+pub(crate) struct CallStop {
     pub status: Status,
     pub reason: Reason,
     pub text: String,
 }
 
-impl Stop {
+impl CallStop {
     /// Returns an end that has a status alone.
-    pub(crate) fn plain(alloc: Global, status: Status) -> Stop
+    pub(crate) fn plain(alloc: Global, status: Status) -> CallStop
         ensures { IsPlain status result }
     {
-        Stop {
+        CallStop {
             status,
             reason: NO_REASON,
             text: String::new(alloc),
@@ -60,14 +60,14 @@ impl Stop {
     }
 
     /// Returns an end with this status, reason and text.
-    pub(crate) fn of_text(status: Status, reason: Reason, text: String) -> Stop
+    pub(crate) fn of_text(status: Status, reason: Reason, text: String) -> CallStop
         ensures status { result.status ≡ status }
         ensures reason { result.reason ≡ record reason { text_length = length (string_bytes text) } }
         ensures text { string_bytes result.text ≡ string_bytes text }
     {
         let mut reason = reason;
         reason.text_length = text.len();
-        Stop {
+        CallStop {
             status,
             reason,
             text,
@@ -82,11 +82,11 @@ impl Stop {
         root: TypeId,
         inner: &[usize],
         refusal: &Refusal,
-    ) -> Stop
+    ) -> CallStop
         ensures { IsStopOf schema.now root inner.now refusal.now result }
     {
         if refusal.error.is_out_of_memory() {
-            return Stop::plain(alloc, Status::OutOfMemory);
+            return CallStop::plain(alloc, Status::OutOfMemory);
         }
         let named = NamedRefusal {
             schema,
@@ -97,7 +97,7 @@ impl Stop {
         match named_text(alloc, &named) {
             Ok((text, path_length)) => {
                 let reason = reason_of(refusal, path_length);
-                Stop::of_text(Status::Refused, reason, text)
+                CallStop::of_text(Status::Refused, reason, text)
             }
             Err(error) => without_memory(alloc, error),
         }
@@ -137,25 +137,25 @@ pub(crate) fn path_length(text: usize, own: usize) -> usize
 }
 
 /// Returns the end of a call for which memory ran out.
-pub(crate) fn without_memory(alloc: Global, _error: AllocError) -> Stop
+pub(crate) fn without_memory(alloc: Global, _error: AllocError) -> CallStop
     ensures { IsPlain OutOfMemory result }
 {
-    Stop::plain(alloc, Status::OutOfMemory)
+    CallStop::plain(alloc, Status::OutOfMemory)
 }
 
 /// Returns an end with this status and text.
-pub(crate) fn stop_of(alloc: Global, status: Status, text: &str) -> Stop
+pub(crate) fn stop_of(alloc: Global, status: Status, text: &str) -> CallStop
     ensures { IsStatusOr status result }
 {
     match String::from_str(alloc, text) {
-        Ok(text) => Stop::of_text(status, NO_REASON, text),
+        Ok(text) => CallStop::of_text(status, NO_REASON, text),
         Err(error) => without_memory(alloc, error),
     }
 }
 
 /// Writes the reason and as much of its text as fits, if a call has no result.
 pub(crate) fn report<T>(
-    made: Result<T, Stop>,
+    made: Result<T, CallStop>,
     reason: &mut Reason,
     text: &mut [u8],
 ) -> Result<T, Status>

@@ -2,7 +2,7 @@
 ghost use Rattle.std.specs.Prelude.{MatchResult};
 ghost use Rattle.rasn_c.specs.Schemas.{IsAsked, IsNotAsked, IsStatusOf};
 
-use crate::reasons::{NO_REASON, Stop};
+use crate::reasons::{CallStop, NO_REASON};
 use crate::rules::rule_numbered;
 use crate::status::Status;
 use rasn::types::Codec;
@@ -19,11 +19,11 @@ pub(crate) struct Query {
 }
 
 /// Returns the type whose schema has these octets, and the rules of this number.
-pub(crate) fn query_of(alloc: Global, schema: &[u8], rule: u32) -> Result<Query, Stop>
+pub(crate) fn query_of(alloc: Global, schema: &[u8], rule: u32) -> Result<Query, CallStop>
     ensures { MatchResult result (λ a. IsAsked schema.now rule a.schema a.root a.rule) (λ stop. IsNotAsked schema.now rule stop.status) }
 {
     let Some(rule) = rule_numbered(rule) else {
-        return Err(Stop::plain(alloc, Status::UnknownRule));
+        return Err(CallStop::plain(alloc, Status::UnknownRule));
     };
     match read(alloc, schema) {
         Ok(compiled) => {
@@ -35,14 +35,14 @@ pub(crate) fn query_of(alloc: Global, schema: &[u8], rule: u32) -> Result<Query,
 }
 
 /// Returns the end of a call whose schema's octets have this fault.
-fn schema_stop(alloc: Global, fault: &ReadFault) -> Stop
+fn schema_stop(alloc: Global, fault: &ReadFault) -> CallStop
     ensures { IsStatusOf fault.now result.status }
 {
     if matches!(fault, ReadFault::OutOfMemory) {
-        return Stop::plain(alloc, Status::OutOfMemory);
+        return CallStop::plain(alloc, Status::OutOfMemory);
     }
     match format!(in alloc; "{fault}") {
-        Ok(text) => Stop::of_text(Status::BadSchema, NO_REASON, text),
-        Err(_) => Stop::plain(alloc, Status::OutOfMemory),
+        Ok(text) => CallStop::of_text(Status::BadSchema, NO_REASON, text),
+        Err(_) => CallStop::plain(alloc, Status::OutOfMemory),
     }
 }

@@ -34,6 +34,9 @@ impl<'tokens, 'text> Parser<'tokens, 'text> {
 
     /// Reads what follows the name and its parameters.
     fn assigned(&mut self, is_upper: bool) -> Result<Assigned<'text>, Halt<'text>> {
+        if self.is(":") || self.is("=") {
+            return Err(self.refuse("::="));
+        }
         if !self.is("::=") {
             return self.governed(is_upper);
         }
@@ -59,10 +62,10 @@ impl<'tokens, 'text> Parser<'tokens, 'text> {
     }
 
     /// Takes what is in braces, which have to be next.
-    pub(crate) fn expect_braces(&mut self) -> Result<Unread<'text>, Halt<'text>> {
+    fn expect_braces(&mut self, what: &'static str) -> Result<Unread<'text>, Halt<'text>> {
         match self.braces()? {
             Some(inner) => Ok(inner),
-            None => Err(self.refuse("{")),
+            None => Err(self.refuse(what)),
         }
     }
 
@@ -72,7 +75,7 @@ impl<'tokens, 'text> Parser<'tokens, 'text> {
             return Ok(None);
         }
         self.expect("SYNTAX")?;
-        Ok(Some(self.expect_braces()?))
+        Ok(Some(self.expect_braces("{")?))
     }
 
     /// Reads a value, an object or a set of them, with the type or the class before it.
@@ -87,7 +90,7 @@ impl<'tokens, 'text> Parser<'tokens, 'text> {
         let of = governor?;
         self.expect("::=")?;
         if is_set {
-            let members = self.expect_braces()?;
+            let members = self.expect_braces("a set of values in braces")?;
             return Ok(Assigned::Values { of, members });
         }
         let value = self.value()?;

@@ -133,7 +133,14 @@ impl<'tokens, 'text> Parser<'tokens, 'text> {
             Kind::Fixed => {
                 self.is("[") || (self.is_reserved_word() && !self.is("TRUE") && !self.is("FALSE"))
             }
-            _ => false,
+            Kind::Field
+            | Kind::Number
+            | Kind::Text
+            | Kind::Digits
+            | Kind::Blank
+            | Kind::Unfinished
+            | Kind::Unknown
+            | Kind::End => false,
         }
     }
 }

@@ -158,14 +158,14 @@ impl<'tokens, 'text> Parser<'tokens, 'text> {
     /// Takes the number of version brackets, which is above that of those before them, and the
     /// colon (X.680 25, 29).
     fn version(&mut self, before: u64) -> Result<u64, Halt<'text>> {
-        let position = self.position();
-        let Ok(version) = self.take().parse::<u64>() else {
-            return Err(self.refuse_at(position, Problem::Expected("the number of a version")));
+        let Ok(version) = self.text().parse::<u64>() else {
+            return Err(self.refuse("the number of a version"));
         };
         if version <= before {
             let rule = "the number of a version isn't above that of the last one (X.680 25, 29)";
-            return Err(self.refuse_at(position, Problem::Broken(rule)));
+            return Err(self.refuse_at(self.position(), Problem::Broken(rule)));
         }
+        self.skip(1);
         self.expect(":")?;
         Ok(version)
     }

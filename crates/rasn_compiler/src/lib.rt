@@ -6,6 +6,8 @@ mod class;
 mod component;
 mod fault;
 mod given;
+mod hint;
+mod identifiers;
 mod imports;
 mod lexer;
 mod library;
@@ -23,9 +25,11 @@ mod token;
 mod tree;
 mod types;
 mod value;
+mod warnings;
 mod words;
 
 pub use fault::{Fault, Problem, Stop};
+pub use identifiers::NamedIdentifier;
 pub use library::{Library, Root, TypeRef, Unresolved};
 pub use modules::{Modules, Source};
 pub use notation::{Notation, notation_of};
@@ -34,5 +38,5 @@ pub use resolver::Resolved;
 pub use steps::Steps;
 pub use tree::{
     Actual, Assigned, Assignment, Base, Builtin, Component, Field, Given, Import, ListOf, Module,
-    NamedNumber, Presence, Tag, TagClass, Tagging, Type, TypeIndex, Unread, Value,
+    NamedNumber, Presence, Symbol, Tag, TagClass, Tagging, Type, TypeIndex, Unread, Value,
 };

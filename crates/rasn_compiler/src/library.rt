@@ -240,7 +240,7 @@ impl<'text> Modules<'text> {
     fn is_plain_type(&self, module: usize, assignment: &Assignment<'text>) -> bool {
         matches!(assignment.assigned, Assigned::Type(_))
             && assignment.parameters.is_none()
-            && !self.is_class_at(module, assignment.name, assignment.position)
+            && !self.is_class_at(module, None, assignment.name, assignment.position)
     }
 
     /// Returns a schema of these types, each of which is a root or a fault of the library. A type

@@ -5,7 +5,7 @@ use crate::fault::{Fault, Halt, Problem};
 use crate::parser::Parser;
 use crate::position::Position;
 use crate::token::Kind;
-use crate::tree::{Assignment, Import, Meaning, Module, Tagging, Unread};
+use crate::tree::{Assignment, Import, Meaning, Module, Symbol, Tagging, Unread};
 use std::alloc::{AllocError, Global};
 use std::collections::{BTreeMap, BTreeSet};
 use std::mem;
@@ -37,10 +37,10 @@ impl<'tokens, 'text> Parser<'tokens, 'text> {
         ensures { IfOk result (λ m. m.source.now ≡ source.now) }
     {
         let head = self.head()?;
-        self.exports()?;
+        let exports = self.exports(faults)?;
         let imports = self.imports()?;
         let assignments = self.assignments(faults)?;
-        Ok(self.made(source, &head, imports, assignments)?)
+        Ok(self.made(source, &head, exports, imports, assignments)?)
     }
 
     /// Returns a module of what was read.
@@ -48,6 +48,7 @@ impl<'tokens, 'text> Parser<'tokens, 'text> {
         &mut self,
         source: &'text str,
         head: &Head<'text>,
+        exports: Option<Vec<Symbol<'text>>>,
         imports: Vec<Import<'text>>,
         assignments: Vec<Assignment<'text>>,
     ) -> Result<Module<'text>, AllocError>
@@ -61,6 +62,7 @@ impl<'tokens, 'text> Parser<'tokens, 'text> {
             identifier: head.identifier,
             tagging: head.tagging,
             is_extensible: head.is_extensible,
+            exports,
             imports,
             types: mem::replace(&mut self.types, Vec::new(self.alloc)),
             assignments,
@@ -139,9 +141,11 @@ impl<'tokens, 'text> Parser<'tokens, 'text> {
             }
             self.next_assignment(&mut found, faults)?;
         }
-        if let Halt::Fault(fault) = self.refuse("END") {
-            faults.push(*fault)?;
-        }
+        faults.push(Fault {
+            source: self.source.name,
+            position: self.end,
+            problem: Problem::Broken("END is missing (X.680 13.1)"),
+        })?;
         Ok(found.list)
     }
 
@@ -208,7 +212,7 @@ fn meanings(
     }
     for (index, import) in imports.iter().enumerate() {
         for symbol in &import.symbols {
-            add_meaning(alloc, &mut meanings, symbol, Meaning::Imported(index))?;
+            add_meaning(alloc, &mut meanings, symbol.name, Meaning::Imported(index))?;
         }
     }
     Ok(meanings)

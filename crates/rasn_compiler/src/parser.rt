@@ -93,9 +93,21 @@ impl<'tokens, 'text> Parser<'tokens, 'text> {
         is_next
     }
 
-    /// Returns a fault at the next item.
-    pub(crate) fn refuse(&self, what: &'static str) -> Halt<'text> {
-        self.refuse_at(self.position(), Problem::Expected(what))
+    /// Returns the fault of the next item, in whose place something else has to be.
+    pub(crate) fn refuse(&self, expected: &'static str) -> Halt<'text> {
+        self.refuse_item(self.rest.first(), expected)
+    }
+
+    /// Returns the fault of an item, or of the end of the text.
+    fn refuse_item(&self, item: Option<&Token<'text>>, expected: &'static str) -> Halt<'text> {
+        let found = match item {
+            Some(token) => token.text,
+            None => "",
+        };
+        self.refuse_at(
+            self.position_of(item),
+            Problem::Unexpected { expected, found },
+        )
     }
 
     /// Returns a fault.
@@ -145,20 +157,18 @@ impl<'tokens, 'text> Parser<'tokens, 'text> {
     /// a bracket that isn't closed is looked for no farther than the next assignment.
     pub(crate) fn balanced(&mut self) -> Result<Unread<'text>, Halt<'text>> {
         let mut open = Vec::new(self.alloc);
-        let mut end = self.end;
+        let mut end = None;
         for (at, token) in self.rest.iter().enumerate() {
             if token.text == "::=" {
-                end = token.position;
+                end = Some(token);
                 break;
             }
             if let Some(closing) = closing_of(token.text) {
                 open.push(closing)?;
             } else if let Some(closing) = closed_by(token.text) {
                 if open.pop() != Some(closing) {
-                    return Err(self.refuse_at(
-                        token.position,
-                        Problem::Expected("the bracket that closes the last one"),
-                    ));
+                    let expected = "the bracket that closes the last one";
+                    return Err(self.refuse_item(Some(token), expected));
                 }
             }
             if open.is_empty() {
@@ -167,7 +177,7 @@ impl<'tokens, 'text> Parser<'tokens, 'text> {
                 return Ok(inner);
             }
         }
-        Err(self.refuse_at(end, Problem::Expected("a closing bracket")))
+        Err(self.refuse_item(end, "a closing bracket"))
     }
 
     /// Returns the text after the next item, up to this octet.

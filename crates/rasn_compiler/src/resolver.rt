@@ -40,6 +40,8 @@ use crate::library::{Library, TypeRef};
 use crate::modules::Modules;
 use crate::steps::Steps;
 pub(crate) use emit::assembled;
+pub(crate) use lookup::MAX_NAMES;
+pub(crate) use node::Place;
 use rasn_schema::{Schema, TypeId};
 pub(crate) use shape::Resolver;
 use std::alloc::Global;

@@ -29,6 +29,8 @@ pub struct Module<'text> {
     pub tagging: Tagging,
     /// Whether EXTENSIBILITY IMPLIED is in its head.
     pub is_extensible: bool,
+    /// What EXPORTS names, or None if it names all.
+    pub exports: Option<Vec<Symbol<'text>>>,
     pub imports: Vec<Import<'text>>,
     /// The types in its assignments, also within other types.
     pub types: Vec<Type<'text>>,
@@ -57,10 +59,18 @@ pub enum Tagging {
     Automatic,
 }
 
+/// A name in EXPORTS or IMPORTS (X.680 13.1).
+#[derive(Clone, Copy)]
+pub struct Symbol<'text> {
+    pub name: &'text str,
+    /// Where it begins.
+    pub position: Position,
+}
+
 /// Names that another module gives (X.680 13.16).
 #[derive(Drop)]
 pub struct Import<'text> {
-    pub symbols: Vec<&'text str>,
+    pub symbols: Vec<Symbol<'text>>,
     pub module: &'text str,
 }
 

@@ -1,5 +1,5 @@
 //! Types (X.680 17).
-use crate::fault::Halt;
+use crate::fault::{Halt, Problem};
 use crate::parser::Parser;
 use crate::position::Position;
 use crate::token::Kind;
@@ -151,7 +151,16 @@ impl<'tokens, 'text> Parser<'tokens, 'text> {
                 Made::Selected(name)
             }
             Kind::Upper => Made::Reference,
-            _ => Made::Simple,
+            Kind::Lower
+            | Kind::Field
+            | Kind::Number
+            | Kind::Text
+            | Kind::Digits
+            | Kind::Fixed
+            | Kind::Blank
+            | Kind::Unfinished
+            | Kind::Unknown
+            | Kind::End => Made::Simple,
         }
     }
 
@@ -236,7 +245,16 @@ impl<'tokens, 'text> Parser<'tokens, 'text> {
                 self.class_field(position, None, object)
             }
             Kind::Fixed => self.worded_type(),
-            _ => Err(self.refuse("a type")),
+            Kind::Upper
+            | Kind::Lower
+            | Kind::Field
+            | Kind::Number
+            | Kind::Text
+            | Kind::Digits
+            | Kind::Blank
+            | Kind::Unfinished
+            | Kind::Unknown
+            | Kind::End => Err(self.refuse("a type")),
         }
     }
 
@@ -266,11 +284,31 @@ impl<'tokens, 'text> Parser<'tokens, 'text> {
             self.expect("STRING")?;
         }
         let names = self.named_numbers()?;
+        if word == "BIT" {
+            self.check_bits(names.as_slice())?;
+        }
         Ok(match word {
             "INTEGER" => Base::Integer(names),
             "ENUMERATED" => Base::Enumerated(names),
             _ => Base::BitString(names),
         })
+    }
+
+    /// Refuses the number of a bit that is below 0 (X.680 22.4).
+    fn check_bits(&self, names: &[NamedNumber<'text>]) -> Result<(), Halt<'text>> {
+        for named in names {
+            if let Some(
+                Value::Number {
+                    is_negative: true,
+                    ..
+                },
+            ) = named.number
+            {
+                let rule = "the number of a bit is below 0 (X.680 22.4)";
+                return Err(self.refuse_at(named.position, Problem::Broken(rule)));
+            }
+        }
+        Ok(())
     }
 
     /// Reads INSTANCE OF (X.681 C).
@@ -347,7 +385,7 @@ impl<'tokens, 'text> Parser<'tokens, 'text> {
 }
 
 /// The types that one word names.
-const BUILTINS: [(&str, Builtin); 28] = [
+pub(crate) const BUILTINS: [(&str, Builtin); 28] = [
     ("BMPString", Builtin::BmpString),
     ("BOOLEAN", Builtin::Boolean),
     ("DATE", Builtin::Date),
@@ -376,6 +414,20 @@ const BUILTINS: [(&str, Builtin); 28] = [
     ("VideotexString", Builtin::VideotexString),
     ("VisibleString", Builtin::VisibleString),
     ("ISO646String", Builtin::VisibleString),
+];
+
+/// The words that other types begin with.
+pub(crate) const OTHER_TYPES: [&str; 10] = [
+    "BIT STRING",
+    "CHARACTER STRING",
+    "CHOICE",
+    "EMBEDDED PDV",
+    "ENUMERATED",
+    "INTEGER",
+    "OBJECT IDENTIFIER",
+    "OCTET STRING",
+    "SEQUENCE",
+    "SET",
 ];
 
 /// Returns the type that the word names alone.

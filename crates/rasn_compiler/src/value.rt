@@ -50,11 +50,11 @@ impl<'tokens, 'text> Parser<'tokens, 'text> {
                 Ok(Some(self.outside_value()?))
             }
             Kind::Fixed => self.fixed_value(),
-            Kind::Unfinished => Err(self.refuse_at(
-                self.position(),
-                Problem::Expected("the end of a string or a comment"),
-            )),
-            _ => Ok(None),
+            Kind::Unfinished => {
+                let missing = "the end of a string or a comment";
+                Err(self.refuse_at(self.position(), Problem::Expected(missing)))
+            }
+            Kind::Upper | Kind::Field | Kind::Blank | Kind::Unknown | Kind::End => Ok(None),
         }
     }
 
@@ -67,7 +67,14 @@ impl<'tokens, 'text> Parser<'tokens, 'text> {
             }),
             Kind::Text => Some(Value::Text(self.take())),
             Kind::Digits => Some(Value::Digits(self.take())),
-            _ => None,
+            Kind::Upper
+            | Kind::Lower
+            | Kind::Field
+            | Kind::Fixed
+            | Kind::Blank
+            | Kind::Unfinished
+            | Kind::Unknown
+            | Kind::End => None,
         }
     }
 

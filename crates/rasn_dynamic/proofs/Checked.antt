@@ -18,7 +18,7 @@ use Rattle.rasn_schema.specs.declared.value.Value.{Value}
 use Rattle.rasn_schema.specs.Trees.{tree_of}
 use Rattle.rasn_dynamic.specs.declared.refusal.Refusal.{Refusal}
 use Rattle.rasn_dynamic.specs.Entry.{IsChecked, IsCheckedUpTo, IsReadFirst, Agree}
-use Rattle.rasn_dynamic.specs.declared.trace.Fault.{Fault}
+use Rattle.rasn_dynamic.specs.declared.trace.UnreadValue.{UnreadValue}
 use Rattle.rasn_dynamic.specs.Faults.{IsRefusalOf, start, unlocated}
 use Rattle.rasn_dynamic.specs.Inside.{DecodesTree}
 use Rattle.rasn_dynamic.proofs.Making.{kept_tree}
@@ -34,7 +34,7 @@ module _ (rule : Codec) (s : Shape) (input : List ℕ) (old : State) (e : old �
   refused_first k new h = at_front (refusal k) new h
 
 -- A refusal keeps the error.
-pub same_error : (e : DecodeError) (t : Option Fault) (len : ℕ) (r : Refusal) → IsRefusalOf e t len r → r.error ≡ e
+pub same_error : (e : DecodeError) (t : Option UnreadValue) (len : ℕ) (r : Refusal) → IsRefusalOf e t len r → r.error ≡ e
 same_error e None len r h = h
 same_error e (Some f) len r h = h.0
 

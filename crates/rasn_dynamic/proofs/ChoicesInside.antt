@@ -25,7 +25,7 @@ use Rattle.rasn_schema.specs.Fitting.{Fits, AlternativeFits}
 use Rattle.rasn_schema.proofs.TypeShapes.{shape_below}
 use Rattle.rasn_dynamic.specs.declared.nested.NextPart.{NextPart}
 use Rattle.rasn_dynamic.specs.declared.nested.OuterChoice.{OuterChoice}
-use Rattle.rasn_dynamic.specs.declared.trace.Fault.{Fault}
+use Rattle.rasn_dynamic.specs.declared.trace.UnreadValue.{UnreadValue}
 use Rattle.rasn_dynamic.specs.declared.span.Spans.{Spans}
 use Rattle.rasn_dynamic.specs.Inside.{DecodesTree}
 use Rattle.rasn_dynamic.specs.Faults.{IsFault, IsFaultIn, IsOnly, IsAnyPart, IsMarked, IsStepped, FailsAt}
@@ -55,9 +55,9 @@ choice_of text l (SequenceOf tag id c) h = absurd h
 choice_of text l (SetOf tag id c) h = absurd h
 
 -- The part is named.
-pub part_named : (types : List «Type») (part : NextPart) (left : ℕ) (s : State) (e : DecodeError) (old mid new : Option Fault)
-    → ((f : Fault) → old ≡ Some f → IsFault types part.levels part.id.0 s e f) → (old ≡ None → FailsAt types part.levels part.id.0 s e) → DecodesTree (shape_of_type types part.levels part.id.0) s (Err e) s → left ≡ length s.rest
-    → IsMarked part.id left old mid → IsStepped part.index mid new → (g : Fault) × (new ≡ Some g) × IsFaultIn types part.levels (IsOnly part.index part.id.0 s) s s e g
+pub part_named : (types : List «Type») (part : NextPart) (left : ℕ) (s : State) (e : DecodeError) (old mid new : Option UnreadValue)
+    → ((f : UnreadValue) → old ≡ Some f → IsFault types part.levels part.id.0 s e f) → (old ≡ None → FailsAt types part.levels part.id.0 s e) → DecodesTree (shape_of_type types part.levels part.id.0) s (Err e) s → left ≡ length s.rest
+    → IsMarked part.id left old mid → IsStepped part.index mid new → (g : UnreadValue) × (new ≡ Some g) × IsFaultIn types part.levels (IsOnly part.index part.id.0 s) s s e g
 part_named types part left s e old mid new h itself d l m st =
     stepped types part.levels part.id.0 part.index s e mid new (marked types part.levels part.id left s e old mid h m l d.exact itself) st
 
@@ -147,7 +147,7 @@ module _ (types : List «Type») (keep : Bool) (s : State) (choice : OuterChoice
       (chosen_refused Here Ks inner.index h.chosen h.next.0 readable h.next.2 s new h.next.1 e.kind (subst (λ (z : TypeId). DecodesTree (Here z.0) s (Err e) new) h.id_is d))
 
   -- What is named in the alternative is named in the CHOICE.
-  fault_inside : (e : DecodeError) (f : Fault) → IsFaultIn types inner.levels (IsOnly inner.index inner.id.0 s) s s e f → IsFault types outer.levels outer.id.0 s e f
+  fault_inside : (e : DecodeError) (f : UnreadValue) → IsFaultIn types inner.levels (IsOnly inner.index inner.id.0 s) s s e f → IsFault types outer.levels outer.id.0 s e f
   fault_inside e f i = entered types outer.levels outer.id.0 inner.levels Ty s h.deep h.found e f (
     s,
     refl,
@@ -156,9 +156,9 @@ module _ (types : List «Type») (keep : Bool) (s : State) (choice : OuterChoice
   )
 
   -- The part itself is named, or one inside it.
-  outer_named : (e : DecodeError) (new : State) (old between now : Option Fault) → ((f : Fault) → old ≡ Some f → IsFault types outer.levels outer.id.0 s e f) → (old ≡ None → FailsAt types outer.levels outer.id.0 s e)
+  outer_named : (e : DecodeError) (new : State) (old between now : Option UnreadValue) → ((f : UnreadValue) → old ≡ Some f → IsFault types outer.levels outer.id.0 s e f) → (old ≡ None → FailsAt types outer.levels outer.id.0 s e)
       → DecodesTree Outer s (Err e) new → IsMarked choice.id choice.left old between → IsStepped choice.index between now
-      → (g : Fault) × (now ≡ Some g) × IsFaultIn types outer.levels (IsOnly outer.index outer.id.0 s) s s e g
+      → (g : UnreadValue) × (now ≡ Some g) × IsFaultIn types outer.levels (IsOnly outer.index outer.id.0 s) s s e g
   outer_named e new old between now i itself d m st =
       stepped types outer.levels outer.id.0 outer.index s e between now
       (marked types outer.levels outer.id choice.left s e old between i (subst (λ z. IsMarked z choice.left old between) h.same_id m) h.left d.exact itself)
@@ -176,7 +176,7 @@ module _ (types : List «Type») (keep : Bool) (s : State) (choice : OuterChoice
       (alternative_listed Here inner.levels (Inside types inner.levels) Ks inner.index h.chosen s new mid o h.next a)))
       z (is_read t new d)
 
-  pub is_left : (r : Result Value DecodeError) (new : State) (f : Option Fault) (o : Spans) (q : Result Value DecodeError) (g : Option Fault) (n : Spans)
+  pub is_left : (r : Result Value DecodeError) (new : State) (f : Option UnreadValue) (o : Spans) (q : Result Value DecodeError) (g : Option UnreadValue) (n : Spans)
       → ReadsPart types keep inner s mid r new f o → Leaves keep choice inner.index new r f o q g n → ReadsPart types keep outer s before q new g n
   is_left (Ok v) new f o (Ok w) g n p (c, e, z) = record {
     reads = choice_made keep inner.index v (DecodesTree Outer) s p.reads.0 (Ok w) new p.reads.1 c tt (is_read p.reads.0 new p.reads.2)
@@ -211,19 +211,19 @@ module _ (types : List «Type») (keep : Bool) (s : State) (choice : OuterChoice
 pub one_more : (items : List OuterChoice) (choice : OuterChoice) → reverse (items ++ choice ∷ []) ≡ choice ∷ reverse items
 one_more items choice = reverse-append items (choice ∷ [])
 
-pub within_left : (types : List «Type») (keep : Bool) (outer : NextPart) (s : State) (before : Spans) (choice : OuterChoice) (choices : List OuterChoice) (index : ℕ) (r : Result Value DecodeError) (new : State) (f : Option Fault) (o : Spans) (q : Result Value DecodeError) (g : Option Fault) (n : Spans)
+pub within_left : (types : List «Type») (keep : Bool) (outer : NextPart) (s : State) (before : Spans) (choice : OuterChoice) (choices : List OuterChoice) (index : ℕ) (r : Result Value DecodeError) (new : State) (f : Option UnreadValue) (o : Spans) (q : Result Value DecodeError) (g : Option UnreadValue) (n : Spans)
     → ReadsWithin types keep outer s before (choice ∷ choices) index r new f o → Leaves keep choice index new r f o q g n → ReadsWithin types keep outer s before choices choice.index q new g n
 within_left types keep outer s before choice choices index r new f o q g n (inner, spans, e, (part, mid, chain, h), p) l =
     (part, mid, sym h.same_index, chain, is_left types keep s choice part inner mid spans h r new f o q g n p (subst (λ k. Leaves keep choice k new r f o q g n) (sym e) l))
 
-pub within_none : (types : List «Type») (keep : Bool) (outer : NextPart) (s : State) (before : Spans) (index : ℕ) (r : Result Value DecodeError) (new : State) (f : Option Fault) (o : Spans)
+pub within_none : (types : List «Type») (keep : Bool) (outer : NextPart) (s : State) (before : Spans) (index : ℕ) (r : Result Value DecodeError) (new : State) (f : Option UnreadValue) (o : Spans)
     → ReadsWithin types keep outer s before [] index r new f o → ReadsPart types keep outer s before r new f o
 within_none types keep outer s before index r new f o (inner, spans, e, (i, j), p) =
     subst (λ z. ReadsPart types keep outer s z r new f o) j (subst (λ z. ReadsPart types keep z s spans r new f o) i p)
 
 -- A CHOICE is left that was the last of the list.
 pub popped : (types : List «Type») (keep : Bool) (outer : NextPart) (s : State) (before : Spans) (items rest : List OuterChoice) (o : Option OuterChoice) (choice : OuterChoice) → o ≡ Some choice → items ≡ rest ++ option_to_list o
-    → (index : ℕ) (r : Result Value DecodeError) (new : State) (f : Option Fault) (a : Spans) (q : Result Value DecodeError) (g : Option Fault) (n : Spans)
+    → (index : ℕ) (r : Result Value DecodeError) (new : State) (f : Option UnreadValue) (a : Spans) (q : Result Value DecodeError) (g : Option UnreadValue) (n : Spans)
     → ReadsWithin types keep outer s before (reverse items) index r new f a → Leaves keep choice index new r f a q g n → ReadsWithin types keep outer s before (reverse rest) choice.index q new g n
 popped types keep outer s before items rest o choice e i index r new f a q g n w l =
     let same : reverse items ≡ choice ∷ reverse rest = ap reverse (i ∙ ap (λ z. rest ++ option_to_list z) e) ∙ one_more rest choice in
@@ -237,7 +237,7 @@ empty n m items rest o e i t k =
 
 pub none_popped : (types : List «Type») (keep : Bool) (outer : NextPart) (s : State) (before : Spans) (items rest : List OuterChoice) (o : Option OuterChoice) → o ≡ None → items ≡ rest ++ option_to_list o
     → (n m : ℕ) → rest ≡ take (n - 1) items → MatchOption o ((n ≡ 0) × (m ≡ 0)) (λ z. m + 1 ≡ n)
-    → (index : ℕ) (r : Result Value DecodeError) (new : State) (f : Option Fault) (a : Spans) → ReadsWithin types keep outer s before (reverse items) index r new f a → ReadsPart types keep outer s before r new f a
+    → (index : ℕ) (r : Result Value DecodeError) (new : State) (f : Option UnreadValue) (a : Spans) → ReadsWithin types keep outer s before (reverse items) index r new f a → ReadsPart types keep outer s before r new f a
 none_popped types keep outer s before items rest o e i n m t k index r new f a w =
     within_none types keep outer s before index r new f a (subst (λ z. ReadsWithin types keep outer s before (reverse z) index r new f a) (empty n m items rest o e i t k) w)
 

@@ -46,7 +46,7 @@ use Rattle.rasn_de.proofs.OwnTypes.Parts.{call_keeps}
 use Rattle.rasn_schema.specs.declared.types.«Type».TheVariants.{Leaf, Enumerated, Any, Unknown, Tagged, Choice, Sequence, Set, SequenceOf, SetOf}
 use Rattle.rasn_schema.specs.declared.types.Presence.TheVariants.{Default}
 use Rattle.rasn_dynamic.specs.Calls.{IsDefaultOf, IsMade}
-use Rattle.rasn_dynamic.specs.declared.trace.Fault.{Fault}
+use Rattle.rasn_dynamic.specs.declared.trace.UnreadValue.{UnreadValue}
 use Rattle.rasn_dynamic.specs.declared.refusal.Refusal.{Refusal}
 use Rattle.rasn_dynamic.specs.Faults.{IsMarked, IsStepped, IsMoved, octets_after, IsWithin, IsComponentAt, ComponentsInTurn, IsUnknown, IsUnknownMember, IsElementAt, IsNextAlternative, IsAlternativeAt, IsOnly, IsMemberHere, IsMemberAfter, IsAnyPart, LeadsBy, LeadsToAny, HasPath, IsFault, IsFaultIn, IsFaultOf, IsFaultInside, Told, TellsOf, IsRefusalOf, IsLocated, LacksType, FailsAt, FailsItself, StopsAtChoice, StopsInElements, StopsInOrder, StopsInSequence, StopsAtComponent, IsDefaultWritten, TakesNothing, start}
 
@@ -77,7 +77,7 @@ within_short all octets left (front, back, f, n) = let l : length all ≡ length
 
 module _ (types : List «Type») where
   -- A value that isn't read is named itself, where nothing inside it was.
-  own : (levels : ℕ) (id : TypeId) (s : State) (k : DecodeError) (f : Fault) → f.id ≡ id → f.left ≡ length s.rest → f.steps.items ≡ [] → Exact (Reads s.rule (shape_of_type types levels id.0) s.depth s.closing) s.rest (refusal k.kind)
+  own : (levels : ℕ) (id : TypeId) (s : State) (k : DecodeError) (f : UnreadValue) → f.id ≡ id → f.left ≡ length s.rest → f.steps.items ≡ [] → Exact (Reads s.rule (shape_of_type types levels id.0) s.depth s.closing) s.rest (refusal k.kind)
       → FailsAt types levels id.0 s k → IsFault types levels id.0 s k f
   unfolding LeadsBy
   own levels id s k f p l e x o = record {
@@ -91,15 +91,15 @@ module _ (types : List «Type») where
     itself = subst (λ (z : TypeId). FailsAt types levels z.0 s k) (sym p) o;
   }
 
-  pub marked : (levels : ℕ) (id : TypeId) (left : ℕ) (s : State) (k : DecodeError) (old new : Option Fault) → ((f : Fault) → old ≡ Some f → IsFault types levels id.0 s k f) → IsMarked id left old new
-      → left ≡ length s.rest → Exact (Reads s.rule (shape_of_type types levels id.0) s.depth s.closing) s.rest (refusal k.kind) → (old ≡ None → FailsAt types levels id.0 s k) → (f : Fault) × (new ≡ Some f) × IsFault types levels id.0 s k f
+  pub marked : (levels : ℕ) (id : TypeId) (left : ℕ) (s : State) (k : DecodeError) (old new : Option UnreadValue) → ((f : UnreadValue) → old ≡ Some f → IsFault types levels id.0 s k f) → IsMarked id left old new
+      → left ≡ length s.rest → Exact (Reads s.rule (shape_of_type types levels id.0) s.depth s.closing) s.rest (refusal k.kind) → (old ≡ None → FailsAt types levels id.0 s k) → (f : UnreadValue) × (new ≡ Some f) × IsFault types levels id.0 s k f
   marked levels id left s k None new t (f, e, p, l, q, u) m x o = (f, e, own levels id s k f p (l ∙ m) q x (o refl))
   marked levels id left s k (Some f) new t e m x o = (f, e, t f refl)
 
-  longer : (f g : Fault) (index : ℕ) (path : List ℕ) → HasPath f path → (g.is_cut ≡ false → (f.is_cut ≡ false) × (g.steps.items ≡ f.steps.items ++ index ∷ [])) → HasPath g (index ∷ path)
+  longer : (f g : UnreadValue) (index : ℕ) (path : List ℕ) → HasPath f path → (g.is_cut ≡ false → (f.is_cut ≡ false) × (g.steps.items ≡ f.steps.items ++ index ∷ [])) → HasPath g (index ∷ path)
   longer f g index path h q cut = let r = q cut in ap reverse r.1 ∙ reverse-append f.steps.items (index ∷ []) ∙ ap (λ l. index ∷ l) (h r.0)
 
-  stepped_by : (levels next index : ℕ) (s : State) (k : DecodeError) (f g : Fault) → IsFault types levels next s k f → g.id ≡ f.id → g.left ≡ f.left
+  stepped_by : (levels next index : ℕ) (s : State) (k : DecodeError) (f g : UnreadValue) → IsFault types levels next s k f → g.id ≡ f.id → g.left ≡ f.left
       → (g.is_cut ≡ false → (f.is_cut ≡ false) × (g.steps.items ≡ f.steps.items ++ index ∷ [])) → IsFaultIn types levels (IsOnly index next s) s s k g
   stepped_by levels next index s k f g i p l q = record {
     index = index;
@@ -118,14 +118,14 @@ module _ (types : List «Type») where
     itself = subst (λ (z : TypeId). FailsAt types i.below z.0 i.last k) (sym p) i.itself;
   }
 
-  pub stepped : (levels next index : ℕ) (s : State) (k : DecodeError) (old new : Option Fault) → (f : Fault) × (old ≡ Some f) × IsFault types levels next s k f → IsStepped index old new
-      → (g : Fault) × (new ≡ Some g) × IsFaultIn types levels (IsOnly index next s) s s k g
+  pub stepped : (levels next index : ℕ) (s : State) (k : DecodeError) (old new : Option UnreadValue) → (f : UnreadValue) × (old ≡ Some f) × IsFault types levels next s k f → IsStepped index old new
+      → (g : UnreadValue) × (new ≡ Some g) × IsFaultIn types levels (IsOnly index next s) s s k g
   stepped levels next index s k old new (f, e, i) t =
       let w : IsStepped index (Some f) new = subst (λ z. IsStepped index z new) e t in
       (w.0, w.1, stepped_by levels next index s k f w.0 i w.2.0 w.2.1 w.2.2)
 
   -- What is named further on in the same contents is named here.
-  pub further : (levels : ℕ) (C D : ℕ → ℕ → State → Type 0) (s here : State) (k : DecodeError) (f : Fault) → here ≡ at s here.rest → IsEnd s.rest here.rest
+  pub further : (levels : ℕ) (C D : ℕ → ℕ → State → Type 0) (s here : State) (k : DecodeError) (f : UnreadValue) → here ≡ at s here.rest → IsEnd s.rest here.rest
       → ((n next : ℕ) (x : State) → C n next x → D n next x) → IsFaultIn types levels C here here k f → IsFaultIn types levels D s s k f
   further levels C D s here k f e d h i = record {
     index = i.index;
@@ -144,7 +144,7 @@ module _ (types : List «Type») where
     itself = i.itself;
   }
 
-  pub weaker : (levels : ℕ) (C D : ℕ → ℕ → State → Type 0) (s inner : State) → ((n next : ℕ) (x : State) → C n next x → D n next x) → (k : DecodeError) (f : Fault) → IsFaultIn types levels C s inner k f → IsFaultIn types levels D s inner k f
+  pub weaker : (levels : ℕ) (C D : ℕ → ℕ → State → Type 0) (s inner : State) → ((n next : ℕ) (x : State) → C n next x → D n next x) → (k : DecodeError) (f : UnreadValue) → IsFaultIn types levels C s inner k f → IsFaultIn types levels D s inner k f
   weaker levels C D s inner h k f i = record {
     index = i.index;
     next = i.next;
@@ -163,7 +163,7 @@ module _ (types : List «Type») where
   }
 
   -- What is named in a ty is named at its id.
-  pub entered : (levels id n : ℕ) (ty : «Type») (s : State) → levels ≡ suc n → slice_get types id ≡ Some ty → (k : DecodeError) (f : Fault) → IsFaultOf types n ty s k f → IsFault types levels id s k f
+  pub entered : (levels id n : ℕ) (ty : «Type») (s : State) → levels ≡ suc n → slice_get types id ≡ Some ty → (k : DecodeError) (f : UnreadValue) → IsFaultOf types n ty s k f → IsFault types levels id s k f
   unfolding LeadsBy
   entered levels id n ty s l g k f (inner, e, i) = record {
     path = i.index ∷ i.path;
@@ -209,14 +209,14 @@ module _ (types : List «Type») where
         subst (λ n. IsWithin old.rest octets (left + n)) (sym b) v
 
     -- It isn't more octets than there are.
-    pub opened_short : (levels : ℕ) (C : ℕ → ℕ → State → Type 0) (k : DecodeError) (f : Fault) (closing : Bool) (n : ℕ) → closing ≡ p.closing → n ≡ octets_after closing (length mid.rest)
+    pub opened_short : (levels : ℕ) (C : ℕ → ℕ → State → Type 0) (k : DecodeError) (f : UnreadValue) (closing : Bool) (n : ℕ) → closing ≡ p.closing → n ≡ octets_after closing (length mid.rest)
         → IsFaultIn types levels C p p k f → f.left + n ≤ length old.rest
     opened_short levels C k f closing n e b i =
         subst (λ m. f.left + m ≤ length old.rest) (sym (b ∙ ap (λ z. octets_after z (length mid.rest)) e)) (within_short old.rest i.last.rest _ (opened_within i.last.rest f.left i.within))
 
     -- What is named in the contents is named in the value.
-    pub opened : (levels : ℕ) (ty : «Type») (k : DecodeError) (closing : Bool) (n : ℕ) → closing ≡ p.closing → n ≡ octets_after closing (length mid.rest) → (t u : Option Fault)
-        → ((f : Fault) → t ≡ Some f → IsFaultIn types levels (IsAnyPart (shape_of_type types levels) ty p) p p k f) → IsMoved n t u → (g : Fault) → u ≡ Some g → IsFaultInside types levels d ty old k g
+    pub opened : (levels : ℕ) (ty : «Type») (k : DecodeError) (closing : Bool) (n : ℕ) → closing ≡ p.closing → n ≡ octets_after closing (length mid.rest) → (t u : Option UnreadValue)
+        → ((f : UnreadValue) → t ≡ Some f → IsFaultIn types levels (IsAnyPart (shape_of_type types levels) ty p) p p k f) → IsMoved n t u → (g : UnreadValue) → u ≡ Some g → IsFaultInside types levels d ty old k g
     opened levels ty k closing n e b None u h m g q = cc
     opened levels ty k closing n e b (Some f) u h (v, y, a, l, z, cut) g q =
         let i = h f refl in
@@ -245,24 +245,24 @@ module _ (types : List «Type») where
 
 -- ---- clauses
 
-pub not_named : (t : Option Fault) (f : Fault) → t ≡ Some f → t ≡ None → ⊥
+pub not_named : (t : Option UnreadValue) (f : UnreadValue) → t ≡ Some f → t ≡ None → ⊥
 not_named t f i n = cc
 
-pub told_map : {T : Type 0} (P Q : DecodeError → Fault → Type 0) → ((k : DecodeError) (f : Fault) → P k f → Q k f) → (r : Result T DecodeError) (t : Option Fault) → Told P r t → Told Q r t
+pub told_map : {T : Type 0} (P Q : DecodeError → UnreadValue → Type 0) → ((k : DecodeError) (f : UnreadValue) → P k f → Q k f) → (r : Result T DecodeError) (t : Option UnreadValue) → Told P r t → Told Q r t
 told_map P Q h (Ok v) t x = x
 told_map P Q h (Err e) t x = λ f q. h e f (x f q)
 
 -- Nothing is named, so what is named is a fault.
-pub unnamed : {T : Type 0} (P : DecodeError → Fault → Type 0) (r : Result T DecodeError) (t : Option Fault) → t ≡ None → Told P r t
+pub unnamed : {T : Type 0} (P : DecodeError → UnreadValue → Type 0) (r : Result T DecodeError) (t : Option UnreadValue) → t ≡ None → Told P r t
 unnamed P (Ok v) t e = e
 unnamed P (Err x) t e = λ f q. absurd cc
 
 -- Something is named, and it is a fault of this kind too.
-pub tells : {T : Type 0} (P Q : DecodeError → Fault → Type 0) → ((k : DecodeError) (f : Fault) → P k f → Q k f) → (r : Result T DecodeError) (t : Option Fault) → TellsOf P r t → Told Q r t
+pub tells : {T : Type 0} (P Q : DecodeError → UnreadValue → Type 0) → ((k : DecodeError) (f : UnreadValue) → P k f → Q k f) → (r : Result T DecodeError) (t : Option UnreadValue) → TellsOf P r t → Told Q r t
 tells P Q h (Ok v) t x = x
 tells P Q h (Err e) t (g, i, w) = λ f q. let same : g ≡ f = cc in subst (Q e) same (h e g w)
 
-pub tells_err : (P Q : DecodeError → Fault → Type 0) → ((k : DecodeError) (f : Fault) → P k f → Q k f) → (e : DecodeError) (t : Option Fault) → (f : Fault) × (t ≡ Some f) × P e f → (f : Fault) → t ≡ Some f → Q e f
+pub tells_err : (P Q : DecodeError → UnreadValue → Type 0) → ((k : DecodeError) (f : UnreadValue) → P k f → Q k f) → (e : DecodeError) (t : Option UnreadValue) → (f : UnreadValue) × (t ≡ Some f) × P e f → (f : UnreadValue) → t ≡ Some f → Q e f
 tells_err P Q h e t (g, i, w) f q = let same : g ≡ f = cc in subst (Q e) same (h e g w)
 
 pub alternative_there : (f : ℕ → Shape) (ks : List Alternative) (index : ℕ) (a : Alternative) (s : State) → IsNextAlternative f ks s index a → (k next : ℕ) (x : State) → IsOnly index a.type_id.0 s k next x → IsAlternativeAt f ks s k next x
@@ -378,10 +378,10 @@ unknown_fails types levels id s new e more h u = record {
 
 -- It is named, with its index.
 pub unknown_named : (types : List «Type») (levels : ℕ) (id : TypeId) (index left : ℕ) (s last : State) (k : DecodeError)
-    (old mid new : Option Fault) → old ≡ None → IsMarked id left old mid → IsStepped index mid new
+    (old mid new : Option UnreadValue) → old ≡ None → IsMarked id left old mid → IsStepped index mid new
     → left ≡ length s.rest → Exact (Reads s.rule (any None) s.depth s.closing) s.rest (refusal k.kind)
     → shape_of_type types levels id.0 ≡ unknown → (Ended s.closing s.rest → ⊥) → errors_of (BorrowsOpenType eoc) s k last
-    → (g : Fault) × (new ≡ Some g) × IsFaultIn types levels (IsOnly index id.0 s) s s k g
+    → (g : UnreadValue) × (new ≡ Some g) × IsFaultIn types levels (IsOnly index id.0 s) s s k g
 unknown_named types levels id index left s last k old mid new none m step l x u more h =
     let refused = subst (λ z. Exact (Reads s.rule z s.depth s.closing) s.rest (refusal k.kind)) (sym u)
     (none_of_many s.rule s.depth s.closing s.rest k.kind more x) in
@@ -391,11 +391,11 @@ unknown_named types levels id index left s last k old mid new none m step l x u 
 
 -- ---- a refusal
 
-pub fault_short : (types : List «Type») (levels id : ℕ) (s : State) (k : DecodeError) (f : Fault) → IsFault types levels id s k f → f.left ≤ length s.rest
+pub fault_short : (types : List «Type») (levels id : ℕ) (s : State) (k : DecodeError) (f : UnreadValue) → IsFault types levels id s k f → f.left ≤ length s.rest
 fault_short types levels id s k f i = within_short s.rest i.last.rest f.left i.within
 
-pub located : (types : List «Type») (rule : Codec) (id : ℕ) (input : List ℕ) (e : DecodeError) (t : Option Fault) (len : ℕ) → len ≡ length input → (r : Refusal)
-    → (f : Fault) × (t ≡ Some f) × IsFault types 18446744073709551615 id (start rule input) e f → IsRefusalOf e t len r → IsLocated types rule id input r
+pub located : (types : List «Type») (rule : Codec) (id : ℕ) (input : List ℕ) (e : DecodeError) (t : Option UnreadValue) (len : ℕ) → len ≡ length input → (r : Refusal)
+    → (f : UnreadValue) × (t ≡ Some f) × IsFault types 18446744073709551615 id (start rule input) e f → IsRefusalOf e t len r → IsLocated types rule id input r
 located types rule id input e t len m r (f, q, i) h =
     let w : IsRefusalOf e (Some f) len r = subst (λ z. IsRefusalOf e z len r) q h in
     let x = i.within in
@@ -427,11 +427,11 @@ if_err_map P Q h (Ok v) x = tt
 if_err_map P Q h (Err e) x = h e x
 
 -- Something is named, so it isn't so that nothing is.
-pub named : {T : Type 0} (P : DecodeError → Fault → Type 0) (Q : DecodeError → Type 0) (r : Result T DecodeError) (t : Option Fault) → TellsOf P r t → IfErr r (λ e. t ≡ None → Q e)
+pub named : {T : Type 0} (P : DecodeError → UnreadValue → Type 0) (Q : DecodeError → Type 0) (r : Result T DecodeError) (t : Option UnreadValue) → TellsOf P r t → IfErr r (λ e. t ≡ None → Q e)
 named P Q (Ok v) t x = tt
 named P Q (Err e) t (f, i, w) = λ n. cc
 
-pub unmoved : (n : ℕ) (t u : Option Fault) → IsMoved n t u → u ≡ None → t ≡ None
+pub unmoved : (n : ℕ) (t u : Option UnreadValue) → IsMoved n t u → u ≡ None → t ≡ None
 unmoved n None u m e = refl
 unmoved n (Some f) u (g, i, a, b, c, d) e = cc
 

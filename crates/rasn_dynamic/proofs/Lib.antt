@@ -25,6 +25,7 @@ pub mod Faults
 pub mod Parts
 pub mod Worked
 pub mod Ways
+pub mod PathTexts
 pub mod Checked
 pub mod Listed
 pub mod Readers

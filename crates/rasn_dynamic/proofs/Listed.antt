@@ -1,10 +1,10 @@
 -- Lists of the parts of what is read are put together.
-use Rattle.std.proofs.Common.{Bool, ◌≡◌, ◌+◌, ◌<◌, ℕ, zero, suc, List, [], ◌∷◌, ◌++◌, length, Some, Result, Ok, Err, refl, sym, ap, ◌∙◌, subst, inl, inr, append_assoc, add-one, arith, length-append}
+use Rattle.std.proofs.Common.{Bool, true, false, ◌≡◌, ◌+◌, ◌-◌, ◌^◌, ◌<◌, ◌≤◌, ℕ, zero, suc, List, [], ◌∷◌, ◌++◌, length, Option, Some, None, Vec, Global, Result, Ok, Err, refl, sym, ap, ◌∙◌, subst, inl, inr, append_assoc, add-one, arith, length-append}
 use Rattle.std.proofs.lemmas.List.{append-nil}
 use Rattle.std.proofs.lemmas.Option.{slice_get-get_or}
 use Rattle.std.proofs.Math.Seq.{get_or-append_seam, set-append_seam}
 use Rattle.std.specs.Borrow.{Bor}
-use Rattle.std.specs.Prelude.{slice_get, slice_set, get_or, IfOk}
+use Rattle.std.specs.Prelude.{if◌then◌else◌, slice_get, slice_set, get_or, IfOk}
 use Rattle.rasn_types.specs.Shapes.{Shape, Tree}
 use Rattle.rasn_types.specs.Framing.{Ended}
 use Rattle.rasn_de.specs.State.{State}
@@ -24,37 +24,69 @@ use Rattle.rasn_dynamic.specs.Sets.{PassesUnknown}
 use Rattle.rasn_dynamic.specs.Calls.{LeavesAllOut}
 use Rattle.rasn_dynamic.specs.Faults.{IsNextAlternative, octets_after}
 use Rattle.rasn_dynamic.specs.Parts.{IsAbsentHere}
-use Rattle.rasn_dynamic.specs.Listed.{capped, GoesInside, GoesInto, InTurn, UnknownListed, PartListed, ComponentListed, ComponentAt, ComponentsListed, MemberListed, MembersListed, ElementsListed, AlternativeListed, ContentsListed, InsideListed, ValueListed, PartsInside, Inside, Lists, IsNoted, IsCut, IsFinished, IsInside, IsOutside}
+use Rattle.rasn_dynamic.specs.Listed.{is_wanted, wanted_of, capped, depth_at, GoesInside, GoesInto, InTurn, UnknownListed, PartListed, ComponentListed, ComponentAt, ComponentsListed, MemberListed, MembersListed, ElementsListed, AlternativeListed, ContentsListed, InsideListed, ValueListed, PartsInside, Inside, Lists, IsNoted, IsCut, IsFinished, IsInside, IsOutside}
 
 -- Of any value that is returned.
 pub if_any : {T E : Type 0} {P : Type 0} (r : Result T E) → P → IfOk r (λ v. P)
 if_any (Ok v) p = p
 if_any (Err e) p = tt
 
+-- ---- what is wanted
+
+pub wanted_append : (w : Option (Vec Bool Global)) (es fs : List Span) → wanted_of w (es ++ fs) ≡ wanted_of w es ++ wanted_of w fs
+wanted_append w [] fs = refl
+wanted_append w (e ∷ es) fs =
+    elim (is_wanted w e.id.0) as (λ b. (if b then e ∷ wanted_of w (es ++ fs) else wanted_of w (es ++ fs)) ≡ (if b then e ∷ wanted_of w es else wanted_of w es) ++ wanted_of w fs) [
+      | true ↦ ap (λ l. e ∷ l) (wanted_append w es fs)
+      | false ↦ wanted_append w es fs
+    ]
+
+wanted_here : (w : Option (Vec Bool Global)) (e : Span) (es : List Span) → is_wanted w e.id.0 ≡ true → wanted_of w (e ∷ es) ≡ e ∷ wanted_of w es
+wanted_here w e es h = ap (λ b. if b then e ∷ wanted_of w es else wanted_of w es) h
+
+unwanted_here : (w : Option (Vec Bool Global)) (e : Span) (es : List Span) → is_wanted w e.id.0 ≡ false → wanted_of w (e ∷ es) ≡ wanted_of w es
+unwanted_here w e es h = ap (λ b. if b then e ∷ wanted_of w es else wanted_of w es) h
+
+-- All are, where there is no table.
+pub wanted_all : (w : Option (Vec Bool Global)) (es : List Span) → w ≡ None → wanted_of w es ≡ es
+wanted_all (Some v) es e = cc
+wanted_all None [] e = refl
+wanted_all None (x ∷ es) e = ap (λ l. x ∷ l) (wanted_all None es refl)
+
+-- ---- the list
+
 -- Nothing is appended.
 pub lists_same : (R : ℕ → List Span → Type 0) (o : Spans) → R o.after [] → Lists R o o
-lists_same R o r = record { same_after = refl; more = λ m q. (m, [], q, sym (append-nil m.items), r) }
+lists_same R o r = record { same_after = refl; same_wanted = refl; parts = []; are = r; more = λ m q. (m, q, sym (append-nil m.items)) }
 
 pub lists_map : (R Q : ℕ → List Span → Type 0) (o n : Spans) → ((b : ℕ) (es : List Span) → R b es → Q b es) → Lists R o n → Lists Q o n
-lists_map R Q o n h l = record { same_after = l.same_after; more = λ m q. let w = l.more m q in (w.0, w.1, w.2, w.3, h o.after w.1 w.4) }
+lists_map R Q o n h l = record { same_after = l.same_after; same_wanted = l.same_wanted; parts = l.parts; are = h o.after l.parts l.are; more = l.more }
 
 -- What is appended twice.
 pub lists_join : (R Q S : ℕ → List Span → Type 0) (o m n : Spans) → ((b : ℕ) (es fs : List Span) → R b es → Q b fs → S b (es ++ fs)) → Lists R o m → Lists Q m n → Lists S o n
 lists_join R Q S o m n h x y = record {
   same_after = y.same_after ∙ x.same_after;
+  same_wanted = y.same_wanted ∙ x.same_wanted;
+  parts = x.parts ++ y.parts;
+  are = h o.after x.parts y.parts x.are (subst (λ b. Q b y.parts) x.same_after y.are);
   more = λ v q.
       let w = y.more v q in
-      let u = x.more w.0 w.2 in
-      (u.0, u.1 ++ w.1, u.2, w.3 ∙ ap (λ l. l ++ w.1) u.3 ∙ append_assoc u.0.items u.1 w.1, h o.after u.1 w.1 u.4 (subst (λ b. Q b w.1) x.same_after w.4));
+      let u = x.more w.0 w.1 in
+      let both : wanted_of o.wanted x.parts ++ wanted_of m.wanted y.parts ≡ wanted_of o.wanted (x.parts ++ y.parts) =
+      ap (λ z. wanted_of o.wanted x.parts ++ wanted_of z y.parts) x.same_wanted ∙ sym (wanted_append o.wanted x.parts y.parts) in
+      (u.0, u.1, w.2 ∙ (ap (λ l. l ++ wanted_of m.wanted y.parts) u.2 ∙ (append_assoc u.0.items (wanted_of o.wanted x.parts) (wanted_of m.wanted y.parts) ∙ ap (λ l. u.0.items ++ l) both)));
 }
 
 -- Inside a value, and out of it again.
 pub lists_inside : (R : ℕ → List Span → Type 0) (o i j n : Spans) (k b : ℕ) → IsInside k o b i → Lists R i j → IsOutside b j n → Lists (λ c es. R (capped c k) es) o n
 lists_inside R o i j n k b a l z = record {
   same_after = z.0 ∙ a.0;
+  same_wanted = z.2 ∙ (l.same_wanted ∙ a.3);
+  parts = l.parts;
+  are = subst (λ c. R c l.parts) a.1 l.are;
   more = λ v q.
       let w = l.more v (sym z.1 ∙ q) in
-      (w.0, w.1, sym a.2 ∙ w.2, w.3, subst (λ c. R c w.1) a.1 w.4);
+      (w.0, sym a.2 ∙ w.1, w.2 ∙ ap (λ x. w.0.items ++ wanted_of x l.parts) a.3);
 }
 
 -- ---- one after the other
@@ -71,24 +103,22 @@ module _ (step : ℕ → ℕ → State → State → List Span → Type 0) where
   lists_more n s here last o m v x y = lists_join (λ b es. InTurn (step b) n s here es) (λ b es. step b n here last es) (λ b es. InTurn (step b) (n + 1) s last es) o m v
       (λ b es mine. in_turn_more b n s here last es mine) x y
 
--- ---- the list
-
 pub same_list : {X : Type 0} (a b : X) → Some a ≡ Some b → a ≡ b
 same_list a b e = cc
 
 -- One part of the list is ended.
 pub is_finished : (place : ℕ) (rest : List ℕ) (list : List Span) (x : Span) (before : Bor (List ℕ)) → x ≡ get_or list place x → IsCut x.octets.now rest before.now
     → (front : List Span) (e : Span) (more : List Span) → list ≡ front ++ e ∷ more → length front ≡ place
-    → (f : Span) × (slice_set list place (record { id = x.id; index = x.index; levels = x.levels; left = x.left; octets = before }) ≡ front ++ f ∷ more) × (f.id ≡ e.id) × (f.index ≡ e.index) × (f.levels ≡ e.levels) × (f.left ≡ e.left)
+    → (f : Span) × (slice_set list place (record { id = x.id; index = x.index; depth = x.depth; left = x.left; octets = before }) ≡ front ++ f ∷ more) × (f.id ≡ e.id) × (f.index ≡ e.index) × (f.depth ≡ e.depth) × (f.left ≡ e.left)
     × IsCut e.octets.now rest f.octets.now
 is_finished place rest list x before v h front e more is at =
-    let f : Span = record { id = x.id; index = x.index; levels = x.levels; left = x.left; octets = before } in
+    let f : Span = record { id = x.id; index = x.index; depth = x.depth; left = x.left; octets = before } in
     let y : x ≡ e = v ∙ ap (λ z. get_or z place x) is ∙ subst (λ k. get_or (front ++ e ∷ more) k x ≡ e) at (get_or-append_seam front e more x) in (
       f,
       ap (λ z. slice_set z place f) is ∙ subst (λ k. slice_set (front ++ e ∷ more) k f ≡ front ++ f ∷ more) at (set-append_seam front e more f),
       ap (λ (z : Span). z.id) y,
       ap (λ (z : Span). z.index) y,
-      ap (λ (z : Span). z.levels) y,
+      ap (λ (z : Span). z.depth) y,
       ap (λ (z : Span). z.left) y,
       subst (λ (z : Span). IsCut z.octets.now rest before.now) y h,
     )
@@ -101,68 +131,120 @@ at_seam xs y ys =
 
 -- ---- what is read
 
+-- It has these fields, and these octets.
+abbrev IsPart : TypeId → ℕ → ℕ → ℕ → List ℕ → Span → Type 0
+IsPart id k levels left octets f = (f.id ≡ id) × (f.index ≡ k) × (f.depth ≡ depth_at levels) × (f.left ≡ left) × (f.octets.now ≡ octets)
+
+-- What was appended, if there is a list.
+abbrev Appended : Spans → Spans → List Span → Type 0
+Appended o n es = (m : Vec Span Global) → n.list ≡ Some m → (u : Vec Span Global) × (o.list ≡ Some u) × (m.items ≡ u.items ++ wanted_of o.wanted es)
+
+short_list : (v : Vec Span Global) → length v.items ≤ 2 ^ 64 - 1
+short_list v = let e = v.ok.0 in let l = v.ok.1 in let s = v.small in omega (arith, e, l, s)
+
+-- A part is noted, those inside are read, and it is finished. It is there, whether it is listed or not.
+module _ (id : TypeId) (k levels place : ℕ) (octets front rest : List ℕ) (o a b n : Spans) (noted : IsNoted id k levels octets o place a) (inside : List Span) (between : Appended a b inside)
+    (finished : IsFinished place rest b n) (cut : octets ≡ front ++ rest) where
+  abbrev Own : Span → Type 0
+  Own = IsPart id k levels (capped o.after (length octets)) front
+
+  own : Span
+  own = record { id = id; index = k; depth = depth_at levels; left = capped o.after (length octets); octets = record { ref_ptr = (0, 0); now = front } }
+
+  own_is : Own own
+  unfolding own
+  own_is = (refl, refl, refl, refl, refl)
+
+  abbrev InList : Vec Span Global → Type 0
+  InList m = (f : Span) × Own f × (u : Vec Span Global) × (o.list ≡ Some u) × (m.items ≡ u.items ++ wanted_of o.wanted (f ∷ inside))
+
+  own_id : is_wanted o.wanted own.id.0 ≡ is_wanted o.wanted id.0
+  own_id = ap (λ (i : TypeId). is_wanted o.wanted i.0) own_is.0
+
+  in_list : (m : Vec Span Global) → n.list ≡ Some m → InList m
+  in_list m q =
+      let z = finished.2 m q in
+      let w = between z.0 z.1 in
+      let u = noted.2 w.0 w.1 in
+      let later : List Span = wanted_of a.wanted inside in
+      elim u.2 [
+        | inl (listed, x) ↦
+            let e = x.1 in
+            let all : z.0.items ≡ u.0.items ++ e ∷ later = w.2 ∙ (ap (λ v. v ++ later) x.2 ∙ append_assoc u.0.items (e ∷ []) later) in
+            let f = z.3 u.0.items e later all (sym x.0) in
+            let wanted : is_wanted o.wanted f.0.id.0 ≡ true = ap (λ (i : TypeId). is_wanted o.wanted i.0) (f.2 ∙ x.3) ∙ listed in (
+              f.0,
+              (f.2 ∙ x.3, f.3 ∙ x.4, f.4 ∙ x.5, f.5 ∙ x.6, f.6 front (x.7 ∙ cut)),
+              u.0,
+              u.1,
+              f.1 ∙ ap (λ v. u.0.items ++ v) (ap (λ v. f.0 ∷ wanted_of v inside) noted.1 ∙ sym (wanted_here o.wanted f.0 inside wanted)),
+            )
+        | inr (unlisted, far, same) ↦ (
+          own,
+          own_is,
+          u.0,
+          u.1,
+          z.2 (let s = short_list z.0 in omega (arith, s, far)) ∙ (w.2 ∙ (ap (λ v. v ++ later) same ∙ ap (λ v. u.0.items ++ v) (ap (λ v. wanted_of v inside) noted.1 ∙ sym (unwanted_here o.wanted own inside (own_id ∙ unlisted))))),
+        )
+      ]
+
+  one_part : (x : Option (Vec Span Global)) → n.list ≡ x → (f : Span) × Own f × Appended o n (f ∷ inside)
+  one_part None q = (own, own_is, λ m e. let none : None ≡ Some m = sym q ∙ e in cc)
+  one_part (Some v) q =
+      let i = in_list v q in
+      (i.0, i.1, λ m e. let same : v ≡ m = same_list v m (sym q ∙ e) in (i.2, i.3, ap (λ (y : Vec Span Global). y.items) (sym same) ∙ i.4))
+
+  pub the_part : (f : Span) × Own f × Appended o n (f ∷ inside)
+  the_part = one_part n.list refl
+
 -- A part is noted, read and finished.
 pub part_listed : (types : List «Type») (levels : ℕ) (id : TypeId) (k place : ℕ) (octets rest : List ℕ) (s next : State) (o a b n : Spans) (t : Tree)
     → octets ≡ s.rest → rest ≡ next.rest → IsNoted id k levels octets o place a → Lists (λ c es. PartsInside types levels id.0 c s es) a b → IsFinished place rest b n
     → DecodesTree (shape_of_type types levels id.0) s (Ok t) next → Lists (λ c es. PartListed (shape_of_type types levels) levels (Inside types levels) id.0 k c s next es) o n
-part_listed types levels id k place octets rest s next o a b n t p r noted l finished d = record {
-  same_after = finished.0 ∙ l.same_after ∙ noted.0;
-  more = λ m q.
-      let z = finished.1 m q in
-      let w = l.more z.0 z.1 in
-      let u = noted.1 w.0 w.2 in
-      let e = u.3 in
-      let all : z.0.items ≡ u.0.items ++ e ∷ w.1 = w.3 ∙ ap (λ x. x ++ w.1) u.4 ∙ append_assoc u.0.items (e ∷ []) w.1 in
-      let f = z.2 u.0.items e w.1 all (sym u.2) in
-      let front = d.end.0 in
-      let begins : e.octets.now ≡ front ++ rest = u.9 ∙ p ∙ d.end.1 ∙ ap (λ x. front ++ x) (sym r) in (
-        u.0,
-        f.0 ∷ w.1,
-        u.1,
-        f.1,
-        record {
-          part = f.0;
-          inside = w.1;
-          is = refl;
-          id_is = ap (λ (i : TypeId). i.0) (f.2 ∙ u.5);
-          index = f.3 ∙ u.6;
-          deep = f.4 ∙ u.7;
-          left = f.5 ∙ u.8 ∙ ap (λ x. capped o.after (length x)) p;
-          octets = d.end.1 ∙ ap (λ x. x ++ next.rest) (sym (f.6 front begins));
-          tree = t;
-          reads = d;
-          parts = subst (λ c. PartsInside types levels id.0 c s w.1) noted.0 w.4;
-        },
-      );
-}
+part_listed types levels id k place octets rest s next o a b n t p r noted l finished d =
+    let cut : octets ≡ d.end.0 ++ rest = p ∙ (d.end.1 ∙ ap (λ x. d.end.0 ++ x) (sym r)) in
+    let f = the_part id k levels place octets d.end.0 rest o a b n noted l.parts l.more finished cut in
+    record {
+      same_after = finished.0 ∙ (l.same_after ∙ noted.0);
+      same_wanted = finished.1 ∙ (l.same_wanted ∙ noted.1);
+      parts = f.0 ∷ l.parts;
+      are = record {
+        part = f.0;
+        inside = l.parts;
+        is = refl;
+        id_is = ap (λ (i : TypeId). i.0) f.1.0;
+        index = f.1.1;
+        deep = f.1.2;
+        left = f.1.3 ∙ ap (λ x. capped o.after (length x)) p;
+        octets = d.end.1 ∙ ap (λ x. x ++ next.rest) (sym f.1.4);
+        tree = t;
+        reads = d;
+        parts = subst (λ c. PartsInside types levels id.0 c s l.parts) noted.0 l.are;
+      };
+      more = f.2;
+    }
 
 -- So is an unknown component of a SET.
 pub unknown_listed : (levels : ℕ) (id : TypeId) (k place : ℕ) (octets rest : List ℕ) (s next : State) (o a n : Spans)
     → octets ≡ s.rest → rest ≡ next.rest → IsNoted id k levels octets o place a → IsFinished place rest a n → Keeps s next → Lists (λ c es. UnknownListed levels id.0 k c s next es) o n
-unknown_listed levels id k place octets rest s next o a n p r noted finished kept = record {
-  same_after = finished.0 ∙ noted.0;
-  more = λ m q.
-      let z = finished.1 m q in
-      let u = noted.1 z.0 z.1 in
-      let e = u.3 in
-      let f = z.2 u.0.items e [] u.4 (sym u.2) in
-      let front = kept.end.0 in
-      let begins : e.octets.now ≡ front ++ rest = u.9 ∙ p ∙ kept.end.1 ∙ ap (λ x. front ++ x) (sym r) in (
-        u.0,
-        f.0 ∷ [],
-        u.1,
-        f.1,
-        record {
-          part = f.0;
-          is = refl;
-          id_is = ap (λ (i : TypeId). i.0) (f.2 ∙ u.5);
-          index = f.3 ∙ u.6;
-          deep = f.4 ∙ u.7;
-          left = f.5 ∙ u.8 ∙ ap (λ x. capped o.after (length x)) p;
-          octets = kept.end.1 ∙ ap (λ x. x ++ next.rest) (sym (f.6 front begins));
-        },
-      );
-}
+unknown_listed levels id k place octets rest s next o a n p r noted finished kept =
+    let cut : octets ≡ kept.end.0 ++ rest = p ∙ (kept.end.1 ∙ ap (λ x. kept.end.0 ++ x) (sym r)) in
+    let f = the_part id k levels place octets kept.end.0 rest o a a n noted [] (λ m q. (m, q, sym (append-nil m.items))) finished cut in
+    record {
+      same_after = finished.0 ∙ noted.0;
+      same_wanted = finished.1 ∙ noted.1;
+      parts = f.0 ∷ [];
+      are = record {
+        part = f.0;
+        is = refl;
+        id_is = ap (λ (i : TypeId). i.0) f.1.0;
+        index = f.1.1;
+        deep = f.1.2;
+        left = f.1.3 ∙ ap (λ x. capped o.after (length x)) p;
+        octets = kept.end.1 ∙ ap (λ x. x ++ next.rest) (sym f.1.4);
+      };
+      more = f.2;
+    }
 
 -- The type with the number is found.
 pub value_listed : (types : List «Type») (levels below id : ℕ) (ty : «Type») (s : State) (o n : Spans) → levels ≡ below + 1 → slice_get types id ≡ Some ty

@@ -1,8 +1,9 @@
 -- Each part that is listed is where it says.
-use Rattle.std.proofs.Common.{◌≡◌, ◌+◌, ◌<◌, ◌^◌, ℕ, zero, suc, List, [], ◌++◌, length, Some, Vec, refl, sym, ap, ◌∙◌, subst, inl, inr, append_assoc, arith, length-append}
+use Rattle.std.proofs.Common.{Bool, ◌≡◌, ◌+◌, ◌<◌, ◌^◌, ℕ, zero, suc, List, [], ◌∷◌, ◌++◌, length, Some, Vec, refl, sym, ap, ◌∙◌, subst, inl, inr, append_assoc, arith, length-append}
 use Rattle.std.proofs.lemmas.List.{append-nil}
 use Rattle.std.proofs.lemmas.List.Elements.{All-append, All-cons}
 use Rattle.std.specs.List.{All}
+use Rattle.std.specs.Prelude.{map, slice_get, if◌then◌else◌}
 use Rattle.rasn_types.specs.Framing.{AreOctets}
 use Rattle.rasn_types.specs.Shapes.{Shape}
 use Rattle.rasn_types.specs.declared.types.codec.Codec.{Codec}
@@ -18,9 +19,9 @@ use Rattle.rasn_schema.specs.declared.types.«Type».TheVariants.{Leaf, Enumerat
 use Rattle.rasn_schema.specs.Shapes.{shape_of_type}
 use Rattle.rasn_dynamic.specs.declared.span.Span.{Span}
 use Rattle.rasn_dynamic.specs.Faults.{octets_after, start}
-use Rattle.rasn_dynamic.specs.Listed.{Lists, IsEmpty, capped, GoesInside, GoesInto, InTurn, UnknownListed, PartListed, ComponentAt, MemberListed, ContentsListed, ValueListed, PartsInside, Inside}
+use Rattle.rasn_dynamic.specs.Listed.{is_true, wanted_of, Lists, IsEmpty, capped, GoesInside, GoesInto, InTurn, UnknownListed, PartListed, ComponentAt, MemberListed, ContentsListed, ValueListed, PartsInside, Inside}
 use Rattle.rasn_dynamic.specs.Sets.{is_extensible, named_components, last_type}
-use Rattle.rasn_dynamic.specs.Walk.{IsPlaced, ArePartsOf}
+use Rattle.rasn_dynamic.specs.Walk.{IsPlaced, AreParts, ArePartsOf, is_open_type, is_open, open_of}
 use Rattle.rasn_dynamic.specs.declared.span.Spans.{Spans}
 use Rattle.rasn_dynamic.specs.declared.message.MessageParts.{MessageParts}
 use Rattle.rasn_dynamic.proofs.Faults.{after, after_length, contents_within}
@@ -151,22 +152,50 @@ module _ (input : List ℕ) (short : length input < 2 ^ 64) (o : AreOctets input
 
 -- ---- what the call returns
 
--- The parts that were listed are those of the message.
-pub are_parts : (types : List «Type») (rule : Codec) (id : TypeId) (input : List ℕ) (s last : State) (o n : Spans) (ps : MessageParts) → s ≡ start rule input → IsEmpty o
-    → Lists (λ b es. PartListed (shape_of_type types 18446744073709551615) 18446744073709551615 (Inside types 18446744073709551615) id.0 0 b s last es) o n → n.list ≡ Some ps.list
-    → ps.input.now ≡ input → ps.next ≡ 0 → ps.path.items ≡ [] → length input < 2 ^ 64 → AreOctets input → ArePartsOf types rule id.0 input ps
-are_parts types rule id input s last o n ps e empty l q i x p short octets =
-    let w = l.more ps.list q in
-    let same : w.0 ≡ empty.1 = same_list w.0 empty.1 (sym w.2 ∙ empty.2) in
-    let all : ps.list.items ≡ w.1 = w.3 ∙ ap (λ z. z ++ w.1) (ap (λ (v : Vec Span Global). v.items) same ∙ empty.3) in
-    let listed = subst (λ es. PartListed (shape_of_type types 18446744073709551615) 18446744073709551615 (Inside types 18446744073709551615) id.0 0 0 (start rule input) last es) (sym all)
-    (subst (λ z. PartListed (shape_of_type types 18446744073709551615) 18446744073709551615 (Inside types 18446744073709551615) id.0 0 0 z last w.1) e
-    (subst (λ b. PartListed (shape_of_type types 18446744073709551615) 18446744073709551615 (Inside types 18446744073709551615) id.0 0 b s last w.1) empty.0 w.4)) in
-    record {
-      last = last;
-      listed = listed;
-      placed = all_placed input short octets types 18446744073709551615 id.0 0 (start rule input) last ps.list.items refl listed;
-      input_is = i;
-      next = x;
-      path = p;
-    }
+-- The parts that were read are those of the message.
+module _ (types : List «Type») (rule : Codec) (id : TypeId) (input rest : List ℕ) (s last : State) (o n : Spans)
+    (l : Lists (λ b es. PartListed (shape_of_type types 18446744073709551615) 18446744073709551615 (Inside types 18446744073709551615) id.0 0 b s last es) o n) (empty : IsEmpty o) where
+  pub are_parts : s ≡ start rule input → last.rest ≡ rest → length input < 2 ^ 64 → AreOctets input → AreParts types rule id.0 input rest l.parts
+  are_parts e end short octets =
+      let listed =
+      subst (λ z. PartListed (shape_of_type types 18446744073709551615) 18446744073709551615 (Inside types 18446744073709551615) id.0 0 0 z last l.parts) e
+      (subst (λ b. PartListed (shape_of_type types 18446744073709551615) 18446744073709551615 (Inside types 18446744073709551615) id.0 0 b s last l.parts) empty.0 l.are) in
+      record {
+        last = last;
+        ends = end;
+        listed = listed;
+        placed = all_placed input short octets types 18446744073709551615 id.0 0 (start rule input) last l.parts refl listed;
+      }
+
+  -- Those that are wanted are in the list.
+  pub are_wanted : (list : Vec Span Global) → n.list ≡ Some list → list.items ≡ wanted_of o.wanted l.parts
+  are_wanted list q =
+      let w = l.more list q in
+      let same : w.0 ≡ empty.1 = same_list w.0 empty.1 (sym w.1 ∙ empty.2) in
+      w.2 ∙ ap (λ z. z ++ wanted_of o.wanted l.parts) (ap (λ (v : Vec Span Global). v.items) same ∙ empty.3)
+
+-- Those of a list of all parts.
+pub all_parts : (types : List «Type») (rule : Codec) (id : ℕ) (input rest : List ℕ) (es : List Span) (ps : MessageParts) → AreParts types rule id input rest es → ps.list.items ≡ es
+    → ps.input.now ≡ input → ps.next ≡ 0 → ps.path.items ≡ [] → ArePartsOf types rule id input ps
+all_parts types rule id input rest es ps a e i x p = record {
+  last = a.last;
+  listed = subst (λ z. PartListed (shape_of_type types 18446744073709551615) 18446744073709551615 (Inside types 18446744073709551615) id 0 0 (start rule input) a.last z) (sym e) a.listed;
+  placed = subst (λ z. All (IsPlaced input) z) (sym e) a.placed;
+  input_is = i;
+  next = x;
+  path = p;
+}
+
+-- ---- open types
+
+open_get : (types : List «Type») (k : ℕ) → is_true (slice_get (map is_open_type types) k) ≡ is_open (slice_get types k)
+open_get [] k = refl
+open_get (ty ∷ types) zero = refl
+open_get (ty ∷ types) (suc k) = open_get types k
+
+-- Those whose types are wanted are the open ones.
+pub open_wanted : (types : List «Type») (v : Vec Bool Global) (es : List Span) → v.items ≡ map is_open_type types → wanted_of (Some v) es ≡ open_of types es
+open_wanted types v [] e = refl
+open_wanted types v (x ∷ es) e =
+    let here : is_true (slice_get v.items x.id.0) ≡ is_open (slice_get types x.id.0) = ap (λ l. is_true (slice_get l x.id.0)) e ∙ open_get types x.id.0 in
+    ap (λ l. if is_true (slice_get v.items x.id.0) then x ∷ l else l) (open_wanted types v es e) ∙ ap (λ b. if b then x ∷ open_of types es else open_of types es) here

@@ -30,17 +30,18 @@ use Rattle.rasn_schema.specs.Shapes.{shape_of_type, type_by, components_by}
 use Rattle.rasn_schema.specs.Trees.{tree_of}
 use Rattle.rasn_schema.specs.Fitting.{Fits, FitsBy, ComponentsFit, EachFits, AreItems, AreElements}
 use Rattle.rasn_dynamic.specs.declared.walk.Refused.{Refused}
-use Rattle.rasn_dynamic.specs.declared.trace.Fault.{Fault}
+use Rattle.rasn_dynamic.specs.declared.trace.UnreadValue.{UnreadValue}
 use Rattle.rasn_dynamic.specs.declared.span.Spans.{Spans}
 use Rattle.rasn_dynamic.specs.Inside.{ReadsSequence, DecodesTree}
 use Rattle.rasn_dynamic.specs.Making.{Making, Counting, IsLength, outcome, reported, trees_of, these}
 use Rattle.rasn_dynamic.specs.Calls.{names_of}
 use Rattle.rasn_dynamic.specs.Found.{MembersFit}
 use Rattle.rasn_dynamic.specs.Sets.{is_extensible, named_components, last_type}
-use Rattle.rasn_dynamic.specs.Typed.{elements, element_count, IsSized, MayRunOut, DecodesComponents, DecodesContents, DecodesType}
+use Rattle.rasn_dynamic.specs.Typed.{elements, element_count, IsSized, MayRunOut, DecodesComponents, HoldsOthers, DecodesContents, DecodesType}
 use Rattle.rasn_dynamic.specs.Faults.{octets_after, IsFaultIn, IsFaultOf, IsFaultInside, IsAnyPart, IsOnly, IsComponentAt, IsMemberAfter, Told, TellsOf, ReadsEachPart, StopsInSequence, StopsInSet, FailsItself}
 use Rattle.rasn_dynamic.specs.Listed.{Lists, Inside, IsInside, IsOutside, PartListed, InsideListed, ComponentsListed, MembersListed, ElementsListed}
-use Rattle.rasn_dynamic.specs.Readers.{IsCounted, DecodesCounted, ReadsContents, ReadsType}
+use Rattle.rasn_dynamic.specs.Parts.{IsHeaderOf}
+use Rattle.rasn_dynamic.specs.Readers.{IsCounted, DecodesCounted, count_of, DecodesHeld, IsSizedAs, ReadsContents, ReadsType}
 use Rattle.rasn_dynamic.proofs.Making.{made_as, items_made, elements_made}
 use Rattle.rasn_dynamic.proofs.Typed.{contents_end, contents_stay, is_sized, missized, not_sized, type_decodes, count_items, named_so}
 use Rattle.rasn_dynamic.proofs.FitsRead.{if_ok, are_items, are_elements, members_fit}
@@ -49,7 +50,7 @@ use Rattle.rasn_dynamic.proofs.Listed.{HasHeader, HoldsNone, if_any, inside_list
 
 -- What is read of a value with this header, whose contents are read as `read` says.
 pub record ReadsHeld (types : List «Type») (below : ℕ) (keep : Bool) (ty : «Type») (read : Call Tree) (d : ConstructedHeader)
-    (old : State) (before : Spans) (r : Result Value DecodeError) (new : State) (fault : Option Fault) (after : Spans) : Type 0 where
+    (old : State) (before : Spans) (r : Result Value DecodeError) (new : State) (fault : Option UnreadValue) (after : Spans) : Type 0 where
   pub exact : Making keep tree_of (DecodesInside read d) old r new
   pub octets : old.depth ≢ 0 → AreOctets old.rest
   pub fits : keep ≡ true → IfOk r (FitsBy (Fits types below) ty)
@@ -63,17 +64,61 @@ pub counted : (read : Call Tree) (n : ℕ) → EachCall (DecodesCounted read n) 
 counted read n o (Ok t) m h = h.1
 counted read n o (Err e) m h = h
 
+pub inside_held : (f : ℕ → Shape) (ty : «Type») (n : ℕ) → EachCall (DecodesHeld f ty n) (DecodesContents f ty)
+inside_held f (Leaf kind tag c names) n o r m h = h
+inside_held f (Enumerated tag ns) n o r m h = h
+inside_held f (Any tag) n o r m h = h
+inside_held f Unknown n o r m h = h
+inside_held f (Tagged tag id) n o r m h = h
+inside_held f (Choice name ks) n o r m h = h
+inside_held f (Sequence tag ps) n o r m h = h
+inside_held f (Set name tag ps) n o r m h = h
+inside_held f (SequenceOf tag id c) n o r m h = counted (DecodesContents f (SequenceOf tag id c)) n o r m h
+inside_held f (SetOf tag id c) n o r m h = counted (DecodesContents f (SetOf tag id c)) n o r m h
+
+-- The number is passed on.
+pub count_is : (n : ℕ) (q : Result ℕ Refused) (old : Option UnreadValue) (m : ℕ) (new : Option UnreadValue) → IsCounted n q old (Ok m) new → m ≡ count_of q
+count_is n (Ok k) old m new w = w.0
+count_is n (Err p) old m new w = absurd w
+
+-- No other type than these two has a bound.
+pub unbounded : (ty : «Type») → ((tag : Tag) (id : TypeId) (c : Constraints) → ty ≡ SequenceOf tag id c → ⊥) → ((tag : Tag) (id : TypeId) (c : Constraints) → ty ≡ SetOf tag id c → ⊥)
+    → (s : State) (n : ℕ) → IsSizedAs ty s n (Ok tt)
+unbounded (Leaf kind tag c names) a b s n = refl
+unbounded (Enumerated tag ns) a b s n = refl
+unbounded (Any tag) a b s n = refl
+unbounded Unknown a b s n = refl
+unbounded (Tagged tag id) a b s n = refl
+unbounded (Choice name ks) a b s n = refl
+unbounded (Sequence tag ps) a b s n = refl
+unbounded (Set name tag ps) a b s n = refl
+unbounded (SequenceOf tag id c) a b s n = absurd (a tag id c refl)
+unbounded (SetOf tag id c) a b s n = absurd (b tag id c refl)
+
+-- A type with a header holds others.
+pub holds_others : (ty : «Type») (d : ConstructedHeader) → IsHeaderOf ty (Some d) → HoldsOthers ty
+holds_others (Leaf kind tag c names) d e = absurd cc
+holds_others (Enumerated tag ns) d e = absurd cc
+holds_others (Any tag) d e = absurd cc
+holds_others Unknown d e = absurd cc
+holds_others (Tagged tag id) d e = tt
+holds_others (Choice name ks) d e = absurd cc
+holds_others (Sequence tag ps) d e = tt
+holds_others (Set name tag ps) d e = tt
+holds_others (SequenceOf tag id c) d e = tt
+holds_others (SetOf tag id c) d e = tt
+
 module _ (types : List «Type») (below : ℕ) (keep : Bool) where
   abbrev f : ℕ → Shape
   f = shape_of_type types below
 
   module _ (ty : «Type») (read : Call Tree) (d : ConstructedHeader)
       (old : State) (octets : old.depth ≢ 0 → AreOctets old.rest) (before : Spans) where
-    abbrev Held : Result Value DecodeError → State → Option Fault → Spans → Type 0
+    abbrev Held : Result Value DecodeError → State → Option UnreadValue → Spans → Type 0
     Held r new fault after = ReadsHeld types below keep ty read d old before r new fault after
 
     -- The value isn't opened.
-    pub unopened : (o : Result (State × Contents) DecodeError) (e : DecodeError) (mid : State) (fault : Option Fault) (after : Spans)
+    pub unopened : (o : Result (State × Contents) DecodeError) (e : DecodeError) (mid : State) (fault : Option UnreadValue) (after : Spans)
         → Err e ≡ o → ConsumesOpening d old o mid → fault ≡ None → Held (Err e) mid fault after
     unopened o e mid fault after q w clear =
         let k : ConsumesOpening d old (Err e) mid = subst (λ z. ConsumesOpening d old z mid) (sym q) w in
@@ -89,9 +134,9 @@ module _ (types : List «Type») (below : ℕ) (keep : Bool) where
 
     -- It is opened, and its contents are read, or aren't.
     module _ (them : EachCall read (DecodesContents f ty)) (p : State) (c : Contents) (mid : State) (w : ConsumesOpening d old (Ok (p, c)) mid)
-        (q : Result (Unit {0}) Refused) (out : Value) (error : DecodeError) (left : State) (told : Option Fault) (inside spans : Spans)
+        (q : Result ℕ Refused) (out : Value) (error : DecodeError) (left : State) (told : Option UnreadValue) (inside spans : Spans)
         (h : ReadsContents types below keep ty read p inside (outcome q out error) left told spans) where
-      abbrev Contained : Result (Unit {0}) Refused → Type 0
+      abbrev Contained : Result ℕ Refused → Type 0
       Contained r = ReadsContents types below keep ty read p inside (outcome r out error) left told spans
 
       abbrev following : ℕ
@@ -100,15 +145,15 @@ module _ (types : List «Type») (below : ℕ) (keep : Bool) where
       stays : (e : DecodeError) → read p (Err e) left → left.closing ≡ p.closing
       stays e k = ap (λ (s : State). s.closing) (contents_stay f ty p e left (them p (Err e) left k))
 
-      short_by : (r : Result (Unit {0}) Refused) → Contained r → (x : Fault) → told ≡ Some x → x.left + following ≤ length old.rest
+      short_by : (r : Result ℕ Refused) → Contained r → (x : UnreadValue) → told ≡ Some x → x.left + following ≤ length old.rest
       short_by (Ok u) k x s = absurd (not_named told x s k.told)
       short_by (Err n) k x s =
           opened_short types d old octets p c mid w below (IsAnyPart f ty p) error x left.closing following (stays error k.exact) refl (k.told x s)
 
-      pub may_count : (n : ℕ) → n ≡ length old.rest → n < 2 ^ 64 → (x : Fault) → told ≡ Some x → x.left + following < 2 ^ 64
+      pub may_count : (n : ℕ) → n ≡ length old.rest → n < 2 ^ 64 → (x : UnreadValue) → told ≡ Some x → x.left + following < 2 ^ 64
       may_count n l m x s = omega (arith, l, m, short_by q h x s)
 
-      refused_by : (r : Result (Unit {0}) Refused) → Contained r → (x : Refused) (fault : Option Fault) (after : Spans)
+      refused_by : (r : Result ℕ Refused) → Contained r → (x : Refused) (fault : Option UnreadValue) (after : Spans)
           → IsCounted following r told (Err x) fault → Held (Err error) mid fault after
       refused_by (Ok u) k x fault after n = absurd n
       refused_by (Err y) k x fault after n = record {
@@ -121,21 +166,21 @@ module _ (types : List «Type») (below : ℕ) (keep : Bool) where
         listed = tt;
       }
 
-      pub refused : (x : Refused) (fault : Option Fault) (after : Spans) → IsCounted following q told (Err x) fault → Held (Err error) mid fault after
+      pub refused : (x : Refused) (fault : Option UnreadValue) (after : Spans) → IsCounted following q told (Err x) fault → Held (Err error) mid fault after
       refused = refused_by q h
 
       -- They are: then the value may be closed.
-      end_by : (r : Result (Unit {0}) Refused) → Contained r → (u : Unit {0}) (fault : Option Fault) → IsCounted following r told (Ok u) fault
+      end_by : (r : Result ℕ Refused) → Contained r → (u : ℕ) (fault : Option UnreadValue) → IsCounted following r told (Ok u) fault
           → IsEnd p.rest left.rest
       end_by (Ok v) k u fault n = contents_end f ty p k.exact.0 left (them p (Ok k.exact.0) left k.exact.2)
       end_by (Err y) k u fault n = absurd n
 
-      pub may_close : (u : Unit {0}) (fault : Option Fault) → IsCounted following q told (Ok u) fault → (l : List ℕ) → l ≡ left.rest
+      pub may_close : (u : ℕ) (fault : Option UnreadValue) → IsCounted following q told (Ok u) fault → (l : List ℕ) → l ≡ left.rest
           → extent c ≡ indefinite → IsEnd mid.rest l
       may_close u fault n l m = step_end read d old p c mid w left.rest l (end_by q h u fault n) m
 
-      module _ (u : Unit {0}) (fault : Option Fault) (n : IsCounted following q told (Ok u) fault) (after : Spans) (l : List ℕ) (m : l ≡ left.rest) (new : State) where
-        unclosed_by : (r : Result (Unit {0}) Refused) → Contained r → IsCounted following r told (Ok u) fault
+      module _ (u : ℕ) (fault : Option UnreadValue) (n : IsCounted following q told (Ok u) fault) (after : Spans) (l : List ℕ) (m : l ≡ left.rest) (new : State) where
+        unclosed_by : (r : Result ℕ Refused) → Contained r → IsCounted following r told (Ok u) fault
             → (e : DecodeError) → ConsumesEnd (extent c) l mid (Err e) new → Held (Err e) new fault after
         unclosed_by (Err y) k z e g = absurd z
         unclosed_by (Ok v) k z e g = record {
@@ -143,7 +188,7 @@ module _ (types : List «Type») (below : ℕ) (keep : Bool) where
           octets = octets;
           fits = λ y. tt;
           rules = codec_is g.2 ∙ same_rules w.5.stays;
-          told = λ x s. absurd (not_named fault x s (z ∙ k.told));
+          told = λ x s. absurd (not_named fault x s (z.1 ∙ k.told));
           itself = λ y. step_unclosed (ReadsEachPart f ty) d old p c mid w k.exact.0 left (them p (Ok k.exact.0) left k.exact.2) l m e new g;
           listed = tt;
         }
@@ -151,7 +196,7 @@ module _ (types : List «Type») (below : ℕ) (keep : Bool) where
         pub unclosed : (e : DecodeError) → ConsumesEnd (extent c) l mid (Err e) new → Held (Err e) new fault after
         unclosed = unclosed_by q h n
 
-        closed_by : (r : Result (Unit {0}) Refused) → Contained r → IsCounted following r told (Ok u) fault
+        closed_by : (r : Result ℕ Refused) → Contained r → IsCounted following r told (Ok u) fault
             → (a : ℕ) → IsInside (octets_after p.closing (length mid.rest)) before a inside → IsOutside a spans after
             → ConsumesEnd (extent c) l mid (Ok tt) new → Held (Ok out) new fault after
         closed_by (Err y) k z a goes leaves g = absurd z
@@ -160,7 +205,7 @@ module _ (types : List «Type») (below : ℕ) (keep : Bool) where
           octets = octets;
           fits = k.fits;
           rules = tt;
-          told = z ∙ k.told;
+          told = z.1 ∙ k.told;
           itself = tt;
           listed = inside_listed f below (Inside types below) ty d old mid p c a before inside spans after w goes k.listed leaves;
         }
@@ -171,11 +216,11 @@ module _ (types : List «Type») (below : ℕ) (keep : Bool) where
 
   -- ---- a value of a type
 
-  module _ (old : State) (before : Spans) (r : Result Value DecodeError) (new : State) (fault : Option Fault) (after : Spans) where
+  module _ (old : State) (before : Spans) (r : Result Value DecodeError) (new : State) (fault : Option UnreadValue) (after : Spans) where
     -- Its type says its header.
     typed : (ty : «Type») (d : ConstructedHeader) → HasHeader ty d → ReadsHeld types below keep ty (DecodesContents f ty) d old before r new fault after
         → ((q : Result Tree DecodeError) → DecodesInside (DecodesContents f ty) d old q new → DecodesType f ty old q new)
-        → ((e : DecodeError) (x : Fault) → IsFaultInside types below d ty old e x → IsFaultOf types below ty old e x)
+        → ((e : DecodeError) (x : UnreadValue) → IsFaultInside types below d ty old e x → IsFaultOf types below ty old e x)
         → ((e : DecodeError) → DecodesInside (ReadsEachPart f ty) d old (Err e) new → FailsItself f ty old e) → ReadsType types below keep ty old before r new fault after
     typed ty d has h same told itself =
         let k = made_as keep tree_of (DecodesInside (DecodesContents f ty) d) (DecodesType f ty) old r new same h.exact in
@@ -209,7 +254,7 @@ module _ (types : List «Type») (below : ℕ) (keep : Bool) where
 
   -- ---- contents, whatever the tag and the bound are
 
-  module _ (old : State) (before : Spans) (r : Result Value DecodeError) (new : State) (fault : Option Fault) (after : Spans) where
+  module _ (old : State) (before : Spans) (r : Result Value DecodeError) (new : State) (fault : Option UnreadValue) (after : Spans) where
     -- What an explicit tag holds is a part.
     pub tagged_contents : (tag : Tag) (id : TypeId)
         → Making keep tree_of (DecodesTree (f id.0)) old r new → (keep ≡ true → IfOk r (λ v. Fits types below id.0 v)) → IfErr r (λ e. e.codec ≡ old.rule)
@@ -245,14 +290,14 @@ module _ (types : List «Type») (below : ℕ) (keep : Bool) where
 
   -- ---- the number of elements
 
-  module _ (old : State) (before : Spans) (new : State) (fault : Option Fault) (after : Spans)
+  module _ (old : State) (before : Spans) (new : State) (fault : Option UnreadValue) (after : Spans)
       (tag : Tag) (c : Constraints) (n : ℕ) (d : ConstructedHeader) (i : d ≡ list_header tag) where
     abbrev Listing : «Type» → Result Value DecodeError → Type 0
     Listing ty r = ReadsHeld types below keep ty (DecodesCounted (DecodesContents f ty) n) d old before r new fault after
 
     module _ (ty : «Type») (has : HasHeader ty (list_header tag))
         (same : (q : Result Tree DecodeError) → DecodesSized (DecodesContents f ty) element_count tag c old q new → DecodesType f ty old q new)
-        (named : (e : DecodeError) (x : Fault) → IsFaultInside types below (list_header tag) ty old e x → IsFaultOf types below ty old e x)
+        (named : (e : DecodeError) (x : UnreadValue) → IsFaultInside types below (list_header tag) ty old e x → IsFaultOf types below ty old e x)
         (itself : (e : DecodeError) → DecodesSized (ReadsEachPart f ty) element_count tag c old (Err e) new → FailsItself f ty old e) where
       -- The elements aren't read.
       unread : (e : DecodeError) → Listing ty (Err e) → ReadsType types below keep ty old before (Err e) new fault after
@@ -313,9 +358,52 @@ module _ (types : List «Type») (below : ℕ) (keep : Bool) where
           → IfErr (reported s e) (λ x. x.codec ≡ new.rule) → ReadsType types below keep (SetOf tag id c) old before (outcome s out e) new fault after
       set_of_sized = sized (SetOf tag id c) refl (λ q k. k) (λ e x k. k) (λ e k. (new, k))
 
+  -- ---- a value with its header, whatever its type is
+
+  module _ (old : State) (before : Spans) (new : State) (fault : Option UnreadValue) (after : Spans) where
+    -- It isn't opened, what is inside isn't read, or it isn't closed.
+    pub enclosed_refused : (ty : «Type») (d : ConstructedHeader) → IsHeaderOf ty (Some d) → (n : ℕ) (e : DecodeError)
+        → ReadsHeld types below keep ty (DecodesHeld f ty n) d old before (Err e) new fault after → ReadsType types below keep ty old before (Err e) new fault after
+    enclosed_refused (Leaf kind tag c names) d i n e h = absurd cc
+    enclosed_refused (Enumerated tag ns) d i n e h = absurd cc
+    enclosed_refused (Any tag) d i n e h = absurd cc
+    enclosed_refused Unknown d i n e h = absurd cc
+    enclosed_refused (Tagged tag id) d i n e h = let same : d ≡ prefix_header tag = cc in tagged old before (Err e) new fault after tag id d same h
+    enclosed_refused (Choice name ks) d i n e h = absurd cc
+    enclosed_refused (Sequence tag ps) d i n e h = let same : d ≡ sequence_header tag = cc in sequence old before (Err e) new fault after tag ps d same h
+    enclosed_refused (Set name tag ps) d i n e h = let same : d ≡ sequence_header tag = cc in set old before (Err e) new fault after name tag ps d same h
+    enclosed_refused (SequenceOf tag id c) d i n e h = let same : d ≡ list_header tag = cc in list_unread old before new fault after tag c n d same id e h
+    enclosed_refused (SetOf tag id c) d i n e h = let same : d ≡ list_header tag = cc in set_of_unread old before new fault after tag c n d same id e h
+
+    unsized : (ty : «Type») (out : Value) → ReadsType types below keep ty old before (Ok out) new fault after
+        → (s : Result (Unit {0}) Refused) (e : DecodeError) → reported s e ≡ Ok tt → ReadsType types below keep ty old before (outcome s out e) new fault after
+    unsized ty out h (Ok u) e w = h
+    unsized ty out h (Err u) e w = absurd cc
+
+    -- It is closed, and then the number of elements is compared.
+    pub enclosed_read : (ty : «Type») (d : ConstructedHeader) → IsHeaderOf ty (Some d) → (n : ℕ) (out : Value)
+        → ReadsHeld types below keep ty (DecodesHeld f ty n) d old before (Ok out) new fault after
+        → (s : Result (Unit {0}) Refused) (e : DecodeError) → IsSizedAs ty new n (reported s e) → IfErr (reported s e) (λ x. x.codec ≡ new.rule)
+        → ReadsType types below keep ty old before (outcome s out e) new fault after
+    enclosed_read (Leaf kind tag c names) d i n out h s e w z = absurd cc
+    enclosed_read (Enumerated tag ns) d i n out h s e w z = absurd cc
+    enclosed_read (Any tag) d i n out h s e w z = absurd cc
+    enclosed_read Unknown d i n out h s e w z = absurd cc
+    enclosed_read (Tagged tag id) d i n out h s e w z =
+        let same : d ≡ prefix_header tag = cc in unsized (Tagged tag id) out (tagged old before (Ok out) new fault after tag id d same h) s e w
+    enclosed_read (Choice name ks) d i n out h s e w z = absurd cc
+    enclosed_read (Sequence tag ps) d i n out h s e w z =
+        let same : d ≡ sequence_header tag = cc in unsized (Sequence tag ps) out (sequence old before (Ok out) new fault after tag ps d same h) s e w
+    enclosed_read (Set name tag ps) d i n out h s e w z =
+        let same : d ≡ sequence_header tag = cc in unsized (Set name tag ps) out (set old before (Ok out) new fault after name tag ps d same h) s e w
+    enclosed_read (SequenceOf tag id c) d i n out h s e w z =
+        let same : d ≡ list_header tag = cc in list_sized old before new fault after tag c n d same id out h s e w z
+    enclosed_read (SetOf tag id c) d i n out h s e w z =
+        let same : d ≡ list_header tag = cc in set_of_sized old before new fault after tag c n d same id out h s e w z
+
   -- ---- a value that holds no others
 
-  module _ (old : State) (spans : Spans) (r : Result Value DecodeError) (new : State) (fault : Option Fault) where
+  module _ (old : State) (spans : Spans) (r : Result Value DecodeError) (new : State) (fault : Option UnreadValue) where
     exact_none : (ty : «Type») → HoldsNone ty → Making keep tree_of (DecodesTree (type_by f ty)) old r new → Making keep tree_of (DecodesType f ty) old r new
     exact_none (Leaf kind tag c names) h k = k
     exact_none (Enumerated tag ns) h k = k
@@ -342,7 +430,7 @@ module _ (types : List «Type») (below : ℕ) (keep : Bool) where
 
   -- ---- the components of a SEQUENCE
 
-  module _ (old : State) (before : Spans) (new : State) (fault : Option Fault) (after : Spans) where
+  module _ (old : State) (before : Spans) (new : State) (fault : Option UnreadValue) (after : Spans) where
     module _ (ps : Vec Component Global) where
       abbrev InSequence : Result Value DecodeError → Type 0
       InSequence r = ReadsContents types below keep (Sequence eoc ps) (DecodesContents f (Sequence eoc ps)) old before r new fault after
@@ -350,7 +438,7 @@ module _ (types : List «Type») (below : ℕ) (keep : Bool) where
       -- These are the components l.
       module _ (l : List Component) (e : l ≡ ps.items) where
         pub components_refused : (x : DecodeError) → DecodesBy (ReadsSequence (components_by f l)) items old (Err x) new → FailsAtPart (components_by f l) old x new ⊎ IsOutOfMemory x.kind
-            → x.codec ≡ old.rule → ((y : Fault) → fault ≡ Some y → IsFaultIn types below (IsComponentAt f l old) old old x y) → (fault ≡ None → StopsInSequence f l old x) → InSequence (Err x)
+            → x.codec ≡ old.rule → ((y : UnreadValue) → fault ≡ Some y → IsFaultIn types below (IsComponentAt f l old) old old x y) → (fault ≡ None → StopsInSequence f l old x) → InSequence (Err x)
         components_refused x reads fails rules told itself = record {
           exact = subst (λ z. DecodesComponents (components_by f z) old (Err x) new) e (reads, fails);
           fits = λ k. tt;
@@ -389,7 +477,7 @@ module _ (types : List «Type») (below : ℕ) (keep : Bool) where
         Read r b z = MayRunOut (DecodesSetPartContents b (components_by f z) items (names_of z)) old r new
 
         pub members_refused : (x : DecodeError) → Read (Err x) extensible qs → x.codec ≡ old.rule
-            → ((y : Fault) → fault ≡ Some y → IsFaultIn types below (IsMemberAfter f extensible qs other old) old old x y) → (fault ≡ None → StopsInSet f (string_bytes name) extensible qs old x) → InSet (Err x)
+            → ((y : UnreadValue) → fault ≡ Some y → IsFaultIn types below (IsMemberAfter f extensible qs other old) old old x y) → (fault ≡ None → StopsInSet f (string_bytes name) extensible qs old x) → InSet (Err x)
         members_refused x reads rules told itself = record {
           exact = so (λ b z o. Read (Err x) b z) reads;
           fits = λ k. tt;

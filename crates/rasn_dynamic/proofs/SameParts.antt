@@ -47,6 +47,8 @@ use Rattle.rasn_dynamic.specs.Parts.{IsAbsentHere}
 use Rattle.rasn_dynamic.specs.Listed.{capped, GoesInside, GoesInto, InTurn, UnknownListed, PartListed, ComponentListed, ComponentAt, ComponentsListed, MemberListed, MembersListed, ElementsListed, AlternativeListed, ContentsListed, ValueListed, PartsInside, Inside}
 use Rattle.rasn_dynamic.specs.Sets.{is_extensible, named_components, last_type, AreLawfulMembers, PassesUnknown}
 use Rattle.rasn_dynamic.specs.SameParts.{IsSamePart, AreSameParts, AreReadableTypes, PartsAreDetermined}
+use Rattle.rasn_dynamic.specs.Walk.{AreParts, ArePartsOf}
+use Rattle.rasn_dynamic.specs.declared.message.MessageParts.{MessageParts}
 use Rattle.rasn_dynamic.proofs.OpenChoice.{one_alternative}
 use Rattle.rasn_dynamic.proofs.Pieces.{only_part, first_of_part, member_is}
 use Rattle.rasn_dynamic.proofs.Named.{named_is}
@@ -356,7 +358,7 @@ module _ (f : ℕ → Shape) (readable : (k : ℕ) → IsReadable (f k)) (levels
       let same : IsSamePart x.part y.part = record {
         id = x.id_is ∙ sym y.id_is;
         index = x.index ∙ sym y.index;
-        levels = x.deep ∙ sym y.deep;
+        depth = x.deep ∙ sym y.deep;
         left = x.left ∙ (ap (λ l. capped b (length l)) alike.rest ∙ sym y.left);
         octets = append_cancel_right x.part.octets.now y.part.octets.now n.rest o;
       } in
@@ -411,7 +413,7 @@ module _ (f : ℕ → Shape) (readable : (k : ℕ) → IsReadable (f k)) (levels
       let same : IsSamePart x.part y.part = record {
         id = x.id_is ∙ sym y.id_is;
         index = x.index ∙ sym y.index;
-        levels = x.deep ∙ sym y.deep;
+        depth = x.deep ∙ sym y.deep;
         left = x.left ∙ (ap (λ l. capped b (length l)) alike.rest ∙ sym y.left);
         octets = append_cancel_right x.part.octets.now y.part.octets.now n.rest o;
       } in
@@ -485,9 +487,18 @@ module _ (types : List «Type») (readable : AreReadableTypes types) where
       value_one (shape_of_type types n) (readable n) n (Inside types n) (inside_one n) ty (readable_type n id ty p) b s z es fs alike x
       (subst (λ v. ValueListed (shape_of_type types n) n (Inside types n) v b z fs) e y)
 
-pub parts_determined : PartsAreDetermined
-parts_determined types rule other id input ps qs readable octets x y =
+pub same_parts : (types : List «Type») (rule other : Codec) (id : ℕ) (input rest end : List ℕ) (es fs : List Span)
+    → AreReadableTypes types → AreOctets input → AreParts types rule id input rest es → AreParts types other id input end fs → AreSameParts es fs
+same_parts types rule other id input rest end es fs readable octets x y =
     let n : ℕ = 18446744073709551615 in
     let alike : Alike (start rule input) (start other input) = record { rest = refl; depth = refl; octets = octets } in
     (part_one (shape_of_type types 18446744073709551615) (readable n) n (Inside types n) (inside_one types readable n)
-    id 0 0 (start rule input) (start other input) x.last y.last ps.list.items qs.list.items alike x.listed y.listed).1
+    id 0 0 (start rule input) (start other input) x.last y.last es fs alike x.listed y.listed).1
+
+-- The parts of a list that is gone over.
+pub as_parts : (types : List «Type») (rule : Codec) (id : ℕ) (input : List ℕ) (ps : MessageParts) → (a : ArePartsOf types rule id input ps) → AreParts types rule id input a.last.rest ps.list.items
+as_parts types rule id input ps a = record { last = a.last; ends = refl; listed = a.listed; placed = a.placed }
+
+pub parts_determined : PartsAreDetermined
+parts_determined types rule other id input ps qs readable octets x y =
+    same_parts types rule other id input x.last.rest y.last.rest ps.list.items qs.list.items readable octets (as_parts types rule id input ps x) (as_parts types other id input qs y)

@@ -9,7 +9,7 @@ use Rattle.rasn_schema.specs.declared.value.Value.{Value, Boolean, Null, Integer
 use Rattle.rasn_schema.proofs.Lists.{some_is}
 use Rattle.rasn_types.specs.declared.types.tag.Tag.{Tag}
 use Rattle.rasn_schema.specs.declared.type_id.TypeId.{TypeId}
-use Rattle.rasn_dynamic.specs.declared.unfit.Part.{Part}
+use Rattle.rasn_dynamic.specs.declared.unfit.UnfitPart.{UnfitPart}
 use Rattle.rasn_schema.proofs.Fitted.{fits_is}
 use Rattle.rasn_schema.proofs.ListsOf.{list_to, list_from}
 use Rattle.rasn_schema.specs.Fitting.{Fits, FitsBy, AreItems, IsListOf, AlternativeFits, ComponentFits, ComponentsFit, EachFits, IsChosen}
@@ -109,13 +109,13 @@ unfit_in h (SetOf tag k c) v p n a = a
 
 -- ---- for the calls that look for a part
 
-module _ (A : List Value → Type 0) (B : Part → List Value → Type 0) (C : Part → Type 0) (vs : List Value) (v : Value) where
-  pub list_part : (r : Option Part) → IsListOf vs v → MatchOption r (A vs → ⊥) (λ p. B p vs × C p) → MatchOption r (AreItems A v → ⊥) (λ p. AreItems (B p) v × C p)
+module _ (A : List Value → Type 0) (B : UnfitPart → List Value → Type 0) (C : UnfitPart → Type 0) (vs : List Value) (v : Value) where
+  pub list_part : (r : Option UnfitPart) → IsListOf vs v → MatchOption r (A vs → ⊥) (λ p. B p vs × C p) → MatchOption r (AreItems A v → ⊥) (λ p. AreItems (B p) v × C p)
   list_part None l h = λ a. h (list_from A vs v l a)
   list_part (Some p) l h = (list_to (B p) vs v l h.0, h.1)
 
 module _ (g : ℕ → Value → Type 0) (ks : List Alternative) (v : Value) where
-  pub choice_part : (r : Option Part) → (IsChosen (AlternativeFits g ks) v → ⊥)
+  pub choice_part : (r : Option UnfitPart) → (IsChosen (AlternativeFits g ks) v → ⊥)
       → MatchOption r (IsChosen (AlternativeFits (λ j w. Unit {0}) ks) v → ⊥) (λ p. IsChosen (IsOfAlternative ks p.index p.type_id.0 p.value.now) v)
       → MatchOption r (IsChosen (AlternativeFits (λ j w. Unit {0}) ks) v → ⊥) (λ p. IsChosen (IsOfAlternative ks p.index p.type_id.0 p.value.now) v × (g p.type_id.0 p.value.now → ⊥))
   choice_part None n h = h

@@ -34,7 +34,7 @@ use Rattle.rasn_schema.specs.declared.value.Value.{Value, Boolean as BooleanValu
 use Rattle.rasn_schema.specs.declared.types.NamedNumber.{NamedNumber}
 use Rattle.rasn_dynamic.specs.Faults.{LeadsBy, LeadsToAny, LacksType, IsMemberHere, StopsAtMember, FailsAt, StopsInSequence, IsLocated, start}
 use Rattle.rasn_dynamic.specs.declared.span.Spans.{Spans}
-use Rattle.rasn_dynamic.specs.declared.trace.Fault.{Fault}
+use Rattle.rasn_dynamic.specs.declared.trace.UnreadValue.{UnreadValue}
 use Rattle.rasn_dynamic.specs.declared.nested.NextPart.{NextPart}
 use Rattle.rasn_dynamic.specs.declared.nested.Nested.{Nested}
 use Rattle.rasn_dynamic.specs.LeafErrors.{leaf_errors, unknown_errors, RunsOutOr}
@@ -170,7 +170,7 @@ no_choice types s outer before new e p readable none = (
   subst (IsNoChoice types) (sym p) none,
 )
 
-other_index : (types : List «Type») (keep : Bool) (outer : NextPart) (s : State) (before : Spans) (index : ℕ) (r : Result Value DecodeError) (new : State) (fault : Option Fault) (after : Spans)
+other_index : (types : List «Type») (keep : Bool) (outer : NextPart) (s : State) (before : Spans) (index : ℕ) (r : Result Value DecodeError) (new : State) (fault : Option UnreadValue) (after : Spans)
     → (outer.index ≡ index → ⊥) → ReadsWithin types keep outer s before [] index r new fault after → ⊥
 other_index types keep outer s before index r new fault after n (inner, spans, i, (e, b), h) = n (ap (λ (z : NextPart). z.index) (sym e) ∙ i)
 

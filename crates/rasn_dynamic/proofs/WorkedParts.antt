@@ -1,6 +1,6 @@
 -- Lists of parts that were worked out by hand.
 use Rattle.std.proofs.Common.{◌≡◌, ℕ, zero, suc, ◌<◌, List, [], ◌∷◌, ◌++◌, length, length-append, Bool, true, false, Vec, Global, Some, None, Ok, inl, inr, refl, sym, ap, ◌∙◌, subst, arith}
-use Rattle.std.specs.Prelude.{slice_get}
+use Rattle.std.specs.Prelude.{if◌then◌else◌, slice_get}
 use Rattle.std.proofs.lemmas.List.{append-nil, append_cancel_right}
 use Rattle.rasn_types.specs.Tags.{form, loose_form, der_form, in_universal}
 use Rattle.rasn_de.specs.State.{State, at}
@@ -28,9 +28,10 @@ use Rattle.rasn_dynamic.specs.declared.part.Part.{Part}
 use Rattle.rasn_dynamic.specs.declared.span.Span.{Span}
 use Rattle.rasn_types.specs.declared.types.codec.Codec.TheVariants.{Der}
 use Rattle.rasn_dynamic.specs.Faults.{start}
-use Rattle.rasn_dynamic.specs.Listed.{InTurn, MemberListed, PartsInside}
+use Rattle.rasn_dynamic.specs.Listed.{is_true, InTurn, MemberListed, PartsInside}
 use Rattle.rasn_dynamic.specs.Parts.{AreContents, LacksAlternative, end_len}
 use Rattle.rasn_dynamic.specs.LeadsTo.{LeadsTo}
+use Rattle.rasn_dynamic.specs.Walk.{is_open}
 use Rattle.rasn_dynamic.specs.SameParts.{AreReadableTypes}
 use Rattle.rasn_dynamic.specs.WorkedParts.{sequence_alone, AreBooleanOrUnknown, a_null, IsNullAtEnd, anything_inside, AreOfOpenSet, WorkedParts}
 use Rattle.rasn_dynamic.specs.Inside.{DecodesTree}
@@ -185,6 +186,12 @@ pub worked_parts : WorkedParts
 worked_parts = record {
   within_64_bits = omega arith;
   not_past_64_bits = omega arith;
+  outermost = refl;
+  two_levels_further_in = refl;
+  all_listed = λ e. refl;
+  unwanted_left_out = λ types e l i. ap (λ z. if is_true (slice_get z e.id.0) then e ∷ [] else []) l ∙ ap (λ k. if is_true (slice_get (false ∷ (true ∷ [])) k) then e ∷ [] else []) i;
+  unknown_value_is_open = λ e i. ap (λ k. if is_open (slice_get (Unknown ∷ []) k) then e ∷ [] else []) i;
+  a_sequence_is_not_open = λ ps e i. ap (λ k. if is_open (slice_get (sequence_alone ps) k) then e ∷ [] else []) i;
   path_of_an_inner_part = refl;
   path_of_the_message = refl;
   before_the_rest = λ front e. append_cancel_right (1 ∷ 2 ∷ []) front (3 ∷ []) e;
@@ -198,7 +205,7 @@ worked_parts = record {
   no_component_without_a_path = no_path;
   contents_of_a_number = λ p e h i. between p (2 ∷ 1 ∷ []) (7 ∷ []) [] e h false i refl;
   not_without_the_last_octet = not_empty_here;
-  same_as_itself = λ e. record { id = refl; index = refl; levels = refl; left = refl; octets = refl };
+  same_as_itself = λ e. record { id = refl; index = refl; depth = refl; left = refl; octets = refl };
   not_of_another_type = λ a b p q h. let n = h.id in omega (arith, n, p, q);
   not_at_another_place = λ a b p q h. let n = h.left in omega (arith, n, p, q);
   unknown_values_alone = alone;

@@ -35,28 +35,28 @@ use Rattle.rasn_dynamic.specs.Sets.{is_extensible, named_components, last_type}
 use Rattle.rasn_dynamic.specs.Calls.{IsDefaultOf, FailsAtNumber, names_of}
 use Rattle.rasn_dynamic.specs.LeafErrors.{leaf_errors, unknown_errors, RunsOutOr}
 use Rattle.rasn_dynamic.specs.Typed.{element_count, DecodesContents}
-use Rattle.rasn_dynamic.specs.declared.trace.Fault.{Fault}
+use Rattle.rasn_dynamic.specs.declared.trace.UnreadValue.{UnreadValue}
 use Rattle.rasn_dynamic.specs.declared.refusal.Refusal.{Refusal}
 
 -- ---- steps on a trace
 
 -- A value is named, unless one is.
-abbrev pub IsMarked : TypeId → ℕ → Option Fault → Option Fault → Type 0
-IsMarked id left None new = (f : Fault) × (new ≡ Some f) × (f.id ≡ id) × (f.left ≡ left) × (f.steps.items ≡ []) × (f.is_cut ≡ false)
+abbrev pub IsMarked : TypeId → ℕ → Option UnreadValue → Option UnreadValue → Type 0
+IsMarked id left None new = (f : UnreadValue) × (new ≡ Some f) × (f.id ≡ id) × (f.left ≡ left) × (f.steps.items ≡ []) × (f.is_cut ≡ false)
 IsMarked id left (Some f) new = new ≡ Some f
 
 -- Unless steps are missing, there is one more.
-abbrev pub IsLonger : ℕ → Fault → Fault → Type 0
+abbrev pub IsLonger : ℕ → UnreadValue → UnreadValue → Type 0
 IsLonger k f g = (g.id ≡ f.id) × (g.left ≡ f.left) × (g.is_cut ≡ false → (f.is_cut ≡ false) × (g.steps.items ≡ f.steps.items ++ k ∷ []))
 
 -- What is named stays named, by one step more.
-abbrev pub IsStepped : ℕ → Option Fault → Option Fault → Type 0
+abbrev pub IsStepped : ℕ → Option UnreadValue → Option UnreadValue → Type 0
 IsStepped k None new = new ≡ None
-IsStepped k (Some f) new = (g : Fault) × (new ≡ Some g) × IsLonger k f g
+IsStepped k (Some f) new = (g : UnreadValue) × (new ≡ Some g) × IsLonger k f g
 
-abbrev pub IsMoved : ℕ → Option Fault → Option Fault → Type 0
+abbrev pub IsMoved : ℕ → Option UnreadValue → Option UnreadValue → Type 0
 IsMoved after None new = new ≡ None
-IsMoved after (Some f) new = (g : Fault) × (new ≡ Some g) × (g.id ≡ f.id) × (g.left ≡ f.left + after) × (g.steps ≡ f.steps) × (g.is_cut ≡ f.is_cut)
+IsMoved after (Some f) new = (g : UnreadValue) × (new ≡ Some g) × (g.id ≡ f.id) × (g.left ≡ f.left + after) × (g.steps ≡ f.steps) × (g.is_cut ≡ f.is_cut)
 
 -- how many octets follow contents that the decoder of the contents doesn't see: of those that end-of-contents octets end, none
 abbrev pub octets_after : Bool → ℕ → ℕ
@@ -284,11 +284,11 @@ abbrev pub LeadsToAny : List «Type» → List ℕ → ℕ → ℕ → State →
 LeadsToAny types path levels id s below end last = LeadsBy IsAnyPart types path levels id s below end last
 
 -- The steps are those of the path, unless they are cut.
-abbrev pub HasPath : Fault → List ℕ → Type 0
+abbrev pub HasPath : UnreadValue → List ℕ → Type 0
 HasPath f path = f.is_cut ≡ false → reverse f.steps.items ≡ path
 
 -- The value that is named can't be read where it begins.
-pub record IsFault (types : List «Type») (levels id : ℕ) (s : State) (e : DecodeError) (f : Fault) : Type 0 where
+pub record IsFault (types : List «Type») (levels id : ℕ) (s : State) (e : DecodeError) (f : UnreadValue) : Type 0 where
   pub path : List ℕ
   pub below : ℕ
   pub last : State
@@ -299,7 +299,7 @@ pub record IsFault (types : List «Type») (levels id : ℕ) (s : State) (e : De
   pub itself : FailsAt types below f.id.0 last e
 
 -- The same of a part of what is read in the state inner, which is in the state s.
-pub record IsFaultIn (types : List «Type») (levels : ℕ) (C : ℕ → ℕ → State → Type 0) (s inner : State) (e : DecodeError) (f : Fault) : Type 0 where
+pub record IsFaultIn (types : List «Type») (levels : ℕ) (C : ℕ → ℕ → State → Type 0) (s inner : State) (e : DecodeError) (f : UnreadValue) : Type 0 where
   pub index : ℕ
   pub next : ℕ
   pub path : List ℕ
@@ -316,28 +316,28 @@ pub record IsFaultIn (types : List «Type») (levels : ℕ) (C : ℕ → ℕ →
   pub itself : FailsAt types below f.id.0 last e
 
 -- The same of a type, whose value is entered; and of a value with this header.
-abbrev pub IsFaultOf : List «Type» → ℕ → «Type» → State → DecodeError → Fault → Type 0
+abbrev pub IsFaultOf : List «Type» → ℕ → «Type» → State → DecodeError → UnreadValue → Type 0
 IsFaultOf types levels ty s e f = (inner : State) × Enters ty s inner
     × IsFaultIn types levels (IsAnyPart (shape_of_type types levels) ty inner) s inner e f
 
-abbrev pub IsFaultInside : List «Type» → ℕ → ConstructedHeader → «Type» → State → DecodeError → Fault → Type 0
+abbrev pub IsFaultInside : List «Type» → ℕ → ConstructedHeader → «Type» → State → DecodeError → UnreadValue → Type 0
 IsFaultInside types levels d ty s e f = (inner : State) × EntersBy d s inner
     × IsFaultIn types levels (IsAnyPart (shape_of_type types levels) ty inner) s inner e f
 
 -- Nothing is named if a value was read; what is named at a refusal is a fault.
-abbrev pub Told : {T : Type 0} → (DecodeError → Fault → Type 0) → Result T DecodeError → Option Fault → Type 0
+abbrev pub Told : {T : Type 0} → (DecodeError → UnreadValue → Type 0) → Result T DecodeError → Option UnreadValue → Type 0
 Told P (Ok v) t = t ≡ None
-Told P (Err e) t = (f : Fault) → t ≡ Some f → P e f
+Told P (Err e) t = (f : UnreadValue) → t ≡ Some f → P e f
 
 -- The same, and something is named.
-abbrev pub TellsOf : {T : Type 0} → (DecodeError → Fault → Type 0) → Result T DecodeError → Option Fault → Type 0
+abbrev pub TellsOf : {T : Type 0} → (DecodeError → UnreadValue → Type 0) → Result T DecodeError → Option UnreadValue → Type 0
 TellsOf P (Ok v) t = t ≡ None
-TellsOf P (Err e) t = (f : Fault) × (t ≡ Some f) × P e f
+TellsOf P (Err e) t = (f : UnreadValue) × (t ≡ Some f) × P e f
 
 -- ---- a refusal
 
 -- The fault, with its offset in an input of so many octets.
-abbrev pub IsRefusalOf : DecodeError → Option Fault → ℕ → Refusal → Type 0
+abbrev pub IsRefusalOf : DecodeError → Option UnreadValue → ℕ → Refusal → Type 0
 IsRefusalOf e None len r = r.error ≡ e
 IsRefusalOf e (Some f) len r = (r.error ≡ e) × (r.offset ≡ len - f.left) × (r.id ≡ f.id) × (r.is_cut ≡ f.is_cut) × (r.steps.items ≡ reverse f.steps.items)
 

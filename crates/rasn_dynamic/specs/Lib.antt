@@ -20,6 +20,7 @@ pub mod Walk
 pub mod SameParts
 pub mod Worked
 pub mod Steps
+pub mod PathText
 pub mod WorkedParts
 pub mod LeadsTo
 pub mod Shown

@@ -1,5 +1,5 @@
 -- The parts of a message, in the order of their octets, each before those inside it.
-use Rattle.std.specs.Prelude.{Bool, ◌≡◌, ◌⊎◌, ◌+◌, ◌-◌, ◌^◌, ◌<◌, ℕ, zero, suc, List, [], ◌∷◌, ◌++◌, length, slice_get, min, vec_len, vec_capacity, Some, Vec, Ok}
+use Rattle.std.specs.Prelude.{Bool, true, false, ◌≡◌, ◌⊎◌, ◌+◌, ◌-◌, ◌^◌, ◌<◌, ◌≤◌, ℕ, zero, suc, List, [], ◌∷◌, ◌++◌, length, slice_get, min, vec_len, vec_capacity, if◌then◌else◌, Option, Some, None, Vec, Ok}
 use Rattle.std.specs.Global.{Global}
 use Rattle.rasn_types.specs.Framing.{Ended}
 use Rattle.rasn_types.specs.Shapes.{Shape, Tree}
@@ -24,6 +24,10 @@ use Rattle.rasn_dynamic.specs.Parts.{IsAbsentHere}
 -- the sum, or the greatest number of 64 bits
 abbrev pub capped : ℕ → ℕ → ℕ
 capped a b = min (a + b) (2 ^ 64 - 1)
+
+-- in how many others a part is, if types are followed so many levels deep from it
+abbrev pub depth_at : ℕ → ℕ
+depth_at levels = (2 ^ 64 - 1) - levels
 
 -- After such a header the contents are read in the state inner. If b octets of the message follow what is seen in the state s, c follow what is seen in this one.
 abbrev pub GoesInside : ConstructedHeader → ℕ → State → ℕ → State → Type 0
@@ -53,7 +57,7 @@ pub record UnknownListed (levels id k b : ℕ) (s next : State) (es : List Span)
   pub is : es ≡ part ∷ []
   pub id_is : part.id.0 ≡ id
   pub index : part.index ≡ k
-  pub deep : part.levels ≡ levels
+  pub deep : part.depth ≡ depth_at levels
   pub left : part.left ≡ capped b (length s.rest)
   pub octets : s.rest ≡ part.octets.now ++ next.rest
 
@@ -66,7 +70,7 @@ module _ (f : ℕ → Shape) (levels : ℕ) (P : ℕ → ℕ → State → List 
     pub is : es ≡ part ∷ inside
     pub id_is : part.id.0 ≡ id
     pub index : part.index ≡ k
-    pub deep : part.levels ≡ levels
+    pub deep : part.depth ≡ depth_at levels
     pub left : part.left ≡ capped b (length s.rest)
     pub octets : s.rest ≡ part.octets.now ++ next.rest
     pub tree : Tree
@@ -135,10 +139,27 @@ Inside types n = λ k c z more. PartsInside types n k c z more
 
 -- ---- what the reader does with the list
 
--- If there is a list afterwards, there was one before, and these parts were appended: R b es, if b octets of the message follow what the decoder sees.
+-- whether parts of the type with a number are listed: there is a table of the types, or all are
+abbrev pub is_true : Option Bool → Bool
+is_true None = false
+is_true (Some b) = b
+
+abbrev pub is_wanted : Option (Vec Bool Global) → ℕ → Bool
+is_wanted None id = true
+is_wanted (Some types) id = is_true (slice_get types.items id)
+
+-- the parts that are listed
+abbrev pub wanted_of : Option (Vec Bool Global) → List Span → List Span
+wanted_of wanted [] = []
+wanted_of wanted (e ∷ es) = if is_wanted wanted e.id.0 then e ∷ wanted_of wanted es else wanted_of wanted es
+
+-- Parts were read: R b parts, if b octets of the message follow what the decoder sees. If there is a list afterwards, there was one before, and those that are wanted were appended.
 pub record Lists (R : ℕ → List Span → Type 0) (old new : Spans) : Type 0 where
   pub same_after : new.after ≡ old.after
-  pub more : (m : Vec Span Global) → new.list ≡ Some m → (l : Vec Span Global) × (es : List Span) × (old.list ≡ Some l) × (m.items ≡ l.items ++ es) × R old.after es
+  pub same_wanted : new.wanted ≡ old.wanted
+  pub parts : List Span
+  pub are : R old.after parts
+  pub more : (m : Vec Span Global) → new.list ≡ Some m → (l : Vec Span Global) × (old.list ≡ Some l) × (m.items ≡ l.items ++ wanted_of old.wanted parts)
 
 -- Nothing is noted yet, and nothing follows.
 abbrev pub IsEmpty : Spans → Type 0
@@ -146,30 +167,37 @@ IsEmpty o = (o.after ≡ 0) × (l : Vec Span Global) × (o.list ≡ Some l) × (
 
 -- If there is a list afterwards, it is that of before, and has room for one part more.
 abbrev pub HasRoom : Spans → Spans → Type 0
-HasRoom old new = (new.after ≡ old.after)
+HasRoom old new = (new.after ≡ old.after) × (new.wanted ≡ old.wanted)
     × ((m : Vec Span Global) → new.list ≡ Some m → (l : Vec Span Global) × (old.list ≡ Some l) × (m.items ≡ l.items) × (vec_len m < vec_capacity m))
 
 -- A part that begins with these octets is the last of the list, at this place.
+abbrev pub IsLast : TypeId → ℕ → ℕ → ℕ → List ℕ → List Span → ℕ → List Span → Type 0
+IsLast id k levels left octets before place list = (place ≡ length before) × (e : Span) × (list ≡ before ++ e ∷ [])
+    × (e.id ≡ id) × (e.index ≡ k) × (e.depth ≡ depth_at levels) × (e.left ≡ left) × (e.octets.now ≡ octets)
+
+-- The same, if such parts are wanted; or it isn't in the list, and its place is after each.
 abbrev pub IsNoted : TypeId → ℕ → ℕ → List ℕ → Spans → ℕ → Spans → Type 0
-IsNoted id k levels octets old place new = (new.after ≡ old.after)
-    × ((m : Vec Span Global) → new.list ≡ Some m → (l : Vec Span Global) × (old.list ≡ Some l) × (place ≡ length l.items) × (e : Span) × (m.items ≡ l.items ++ e ∷ [])
-    × (e.id ≡ id) × (e.index ≡ k) × (e.levels ≡ levels) × (e.left ≡ capped old.after (length octets)) × (e.octets.now ≡ octets))
+IsNoted id k levels octets old place new = (new.after ≡ old.after) × (new.wanted ≡ old.wanted)
+    × ((m : Vec Span Global) → new.list ≡ Some m → (l : Vec Span Global) × (old.list ≡ Some l)
+    × (((is_wanted old.wanted id.0 ≡ true) × IsLast id k levels (capped old.after (length octets)) octets l.items place m.items)
+    ⊎ ((is_wanted old.wanted id.0 ≡ false) × (place ≡ 2 ^ 64 - 1) × (m.items ≡ l.items))))
 
 -- If the octets end with the rest, these are before it.
 abbrev pub IsCut : List ℕ → List ℕ → List ℕ → Type 0
 IsCut octets rest before = (front : List ℕ) → octets ≡ front ++ rest → before ≡ front
 
--- The part at this place has the octets before the rest. The others are as they were.
+-- The part at this place, if there is one, has the octets before the rest. The others are as they were.
 abbrev pub IsFinished : ℕ → List ℕ → Spans → Spans → Type 0
-IsFinished place rest old new = (new.after ≡ old.after)
+IsFinished place rest old new = (new.after ≡ old.after) × (new.wanted ≡ old.wanted)
     × ((m : Vec Span Global) → new.list ≡ Some m → (l : Vec Span Global) × (old.list ≡ Some l)
+    × (length l.items ≤ place → m.items ≡ l.items)
     × ((front : List Span) (e : Span) (more : List Span) → l.items ≡ front ++ e ∷ more → length front ≡ place
-    → (f : Span) × (m.items ≡ front ++ f ∷ more) × (f.id ≡ e.id) × (f.index ≡ e.index) × (f.levels ≡ e.levels) × (f.left ≡ e.left) × IsCut e.octets.now rest f.octets.now))
+    → (f : Span) × (m.items ≡ front ++ f ∷ more) × (f.id ≡ e.id) × (f.index ≡ e.index) × (f.depth ≡ e.depth) × (f.left ≡ e.left) × IsCut e.octets.now rest f.octets.now))
 
 -- So many octets more follow what the decoder sees, where b did before.
 abbrev pub IsInside : ℕ → Spans → ℕ → Spans → Type 0
-IsInside n old b new = (b ≡ old.after) × (new.after ≡ capped old.after n) × (new.list ≡ old.list)
+IsInside n old b new = (b ≡ old.after) × (new.after ≡ capped old.after n) × (new.list ≡ old.list) × (new.wanted ≡ old.wanted)
 
 -- So many octets follow it again.
 abbrev pub IsOutside : ℕ → Spans → Spans → Type 0
-IsOutside b old new = (new.after ≡ b) × (new.list ≡ old.list)
+IsOutside b old new = (new.after ≡ b) × (new.list ≡ old.list) × (new.wanted ≡ old.wanted)

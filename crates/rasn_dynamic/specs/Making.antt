@@ -19,7 +19,7 @@ Counting {T} {D} keep view counts read old (Ok v) new n = (d : D) × (keep ≡ t
 Counting {T} {D} keep view counts read old (Err e) new n = read old (Err e) new
 
 -- What a call returns that leaves its value in one place and its error in another.
-abbrev pub outcome : {T : Type 0} → Result (Unit {0}) Refused → T → DecodeError → Result T DecodeError
+abbrev pub outcome : {S T : Type 0} → Result S Refused → T → DecodeError → Result T DecodeError
 outcome (Ok done) v e = Ok v
 outcome (Err r) v e = Err e
 

@@ -15,7 +15,7 @@ use Rattle.rasn_schema.specs.Fitting.{Fits, IsChosen}
 use Rattle.rasn_dynamic.specs.declared.nested.NextPart.{NextPart}
 use Rattle.rasn_dynamic.specs.declared.nested.OuterChoice.{OuterChoice}
 use Rattle.rasn_dynamic.specs.declared.nested.Nested.{Nested}
-use Rattle.rasn_dynamic.specs.declared.trace.Fault.{Fault}
+use Rattle.rasn_dynamic.specs.declared.trace.UnreadValue.{UnreadValue}
 use Rattle.rasn_dynamic.specs.declared.span.Spans.{Spans}
 use Rattle.rasn_dynamic.specs.Inside.{DecodesTree}
 use Rattle.rasn_dynamic.specs.Making.{Making}
@@ -80,7 +80,7 @@ Descends types s outer before (Err e) new after = (spans : Spans) × LeadsInto t
 -- ---- the way out
 
 -- A value of the part's type is read as the part, which is listed with those inside it; or something in it is named.
-pub record ReadsPart (types : List «Type») (keep : Bool) (part : NextPart) (old : State) (before : Spans) (r : Result Value DecodeError) (new : State) (fault : Option Fault) (after : Spans) : Type 0 where
+pub record ReadsPart (types : List «Type») (keep : Bool) (part : NextPart) (old : State) (before : Spans) (r : Result Value DecodeError) (new : State) (fault : Option UnreadValue) (after : Spans) : Type 0 where
   pub reads : Making keep tree_of (DecodesTree (shape_of_type types part.levels part.id.0)) old r new
   pub fits : keep ≡ true → IfOk r (Fits types part.levels part.id.0)
   pub rules : IfErr r (λ e. e.codec ≡ old.rule)
@@ -89,15 +89,15 @@ pub record ReadsPart (types : List «Type») (keep : Bool) (part : NextPart) (ol
 
 -- The alternative with this index was read, then it is the value of the CHOICE, whose part is ended, unless memory runs out; or it wasn't. If there is
 -- an error, the CHOICE is named, unless something inside it is.
-abbrev pub Leaves : Bool → OuterChoice → ℕ → State → Result Value DecodeError → Option Fault → Spans → Result Value DecodeError → Option Fault → Spans → Type 0
+abbrev pub Leaves : Bool → OuterChoice → ℕ → State → Result Value DecodeError → Option UnreadValue → Spans → Result Value DecodeError → Option UnreadValue → Spans → Type 0
 Leaves keep choice index s (Ok v) old before (Ok w) new after = (keep ≡ true → IsChosen (λ k u. (k ≡ index) × (u ≡ v)) w) × (new ≡ old) × IsFinished choice.place s.rest before after
 Leaves keep choice index s (Ok v) old before (Err e) new after = IsOutOfMemory e.kind × (e.codec ≡ s.rule)
-    × (mid : Option Fault) × IsMarked choice.id choice.left old mid × IsStepped choice.index mid new
+    × (mid : Option UnreadValue) × IsMarked choice.id choice.left old mid × IsStepped choice.index mid new
 Leaves keep choice index s (Err d) old before (Ok w) new after = ⊥
 Leaves keep choice index s (Err d) old before (Err e) new after = (e ≡ d)
-    × (mid : Option Fault) × IsMarked choice.id choice.left old mid × IsStepped choice.index mid new
+    × (mid : Option UnreadValue) × IsMarked choice.id choice.left old mid × IsStepped choice.index mid new
 
 -- The CHOICEs lead from the part outer to a part with this index, and that is read.
-abbrev pub ReadsWithin : List «Type» → Bool → NextPart → State → Spans → List OuterChoice → ℕ → Result Value DecodeError → State → Option Fault → Spans → Type 0
+abbrev pub ReadsWithin : List «Type» → Bool → NextPart → State → Spans → List OuterChoice → ℕ → Result Value DecodeError → State → Option UnreadValue → Spans → Type 0
 ReadsWithin types keep outer s before choices index r new fault after = (inner : NextPart) × (spans : Spans) × (inner.index ≡ index)
     × LeadsInto types s choices outer before inner spans × ReadsPart types keep inner s spans r new fault after

@@ -13,7 +13,7 @@ use Rattle.rasn_dynamic.specs.Walk.{ArePartsOf}
 pub record IsSamePart (a b : Span) : Type 0 where
   pub id : a.id.0 ≡ b.id.0
   pub index : a.index ≡ b.index
-  pub levels : a.levels ≡ b.levels
+  pub depth : a.depth ≡ b.depth
   pub left : a.left ≡ b.left
   pub octets : a.octets.now ≡ b.octets.now
 

@@ -21,7 +21,7 @@ IsElement k i j w vs = (Some w ≡ slice_get vs i) × (k ≡ j)
 abbrev pub IsOfAlternative : List Alternative → ℕ → ℕ → Value → ℕ → Value → Type 0
 IsOfAlternative ks i j w n u = (n ≡ i) × (u ≡ w) × ((a : Alternative) × (Some a ≡ slice_get ks i) × (a.type_id.0 ≡ j))
 
--- Part i of a value of the type is w, and j is the number of its type.
+-- UnfitPart i of a value of the type is w, and j is the number of its type.
 abbrev pub IsPart : «Type» → Value → ℕ → ℕ → Value → Type 0
 IsPart (Choice name ks) v i j w = IsChosen (IsOfAlternative ks.items i j w) v
 IsPart (Sequence tag ps) v i j w = AreItems (IsComponent ps.items i j w) v

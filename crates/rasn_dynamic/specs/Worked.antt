@@ -8,7 +8,7 @@ use Rattle.rasn_de.specs.State.{State}
 use Rattle.rasn_schema.specs.declared.type_id.TypeId.{TypeId}
 use Rattle.rasn_schema.specs.declared.types.«Type».{«Type»}
 use Rattle.rasn_schema.specs.declared.types.«Type».TheVariants.{SequenceOf}
-use Rattle.rasn_dynamic.specs.declared.trace.Fault.{Fault}
+use Rattle.rasn_dynamic.specs.declared.trace.UnreadValue.{UnreadValue}
 use Rattle.rasn_dynamic.specs.Faults.{IsStepped, octets_after, IsWithin, IsOnly, Leads, start}
 use Rattle.rasn_dynamic.specs.Parts.{IsHeader, IsSeen, LacksElement}
 use Rattle.rasn_dynamic.specs.declared.steps.Step.TheVariants.{Index}
@@ -46,8 +46,8 @@ pub record WorkedPlaces : Type 0 where
   pub not_three_octets : IsHeader (2 ∷ 1 ∷ 7 ∷ []) 3 false → ⊥
   pub indefinite_length : IsHeader (48 ∷ 128 ∷ 0 ∷ 0 ∷ []) 2 true
   pub definite_length : IsHeader (2 ∷ 1 ∷ 7 ∷ []) 2 true → ⊥
-  pub nothing_is_named_by_a_step : (k : ℕ) (f : Fault) → IsStepped k None (Some f) → ⊥
-  pub nothing_is_forgotten_by_a_step : (k : ℕ) (f : Fault) → IsStepped k (Some f) None → ⊥
+  pub nothing_is_named_by_a_step : (k : ℕ) (f : UnreadValue) → IsStepped k None (Some f) → ⊥
+  pub nothing_is_forgotten_by_a_step : (k : ℕ) (f : UnreadValue) → IsStepped k (Some f) None → ⊥
   pub third_part : (s : State) → IsOnly 3 7 s 3 7 s
   pub not_the_fourth : (s : State) → IsOnly 3 7 s 4 7 s → ⊥
   pub after_definite_contents : octets_after false 4 ≡ 4

@@ -28,7 +28,7 @@ use Rattle.rasn_schema.specs.declared.value.Value.{Value, Boolean as BooleanValu
 use Rattle.rasn_dynamic.specs.declared.refusal.Refusal.{Refusal}
 use Rattle.rasn_dynamic.specs.declared.walk.Refused.{Refused}
 use Rattle.rasn_dynamic.specs.declared.span.Spans.{Spans}
-use Rattle.rasn_dynamic.specs.declared.trace.Fault.{Fault}
+use Rattle.rasn_dynamic.specs.declared.trace.UnreadValue.{UnreadValue}
 use Rattle.rasn_dynamic.specs.declared.nested.NextPart.{NextPart}
 use Rattle.rasn_dynamic.specs.declared.nested.Nested.{Nested}
 use Rattle.rasn_dynamic.specs.LeafErrors.{leaf_errors, unknown_errors, RunsOutOr}
@@ -83,13 +83,13 @@ pub record WorkedFaults : Type 0 where
       → IsReadable (shape_of_type types outer.levels outer.id.0) → IsNoChoice types outer → Descends types s outer before (Ok tt) new before
   pub not_down_to_a_choice : (types : List «Type») (s : State) (outer : NextPart) (before after : Spans) (new : Nested) (text : List ℕ) (l : List Alternative)
       → IsChoiceHere types new.part text l → Descends types s outer before (Ok tt) new after → ⊥
-  pub read_within_no_choice : (types : List «Type») (keep : Bool) (outer : NextPart) (s : State) (before : Spans) (r : Result Value DecodeError) (new : State) (fault : Option Fault) (after : Spans)
+  pub read_within_no_choice : (types : List «Type») (keep : Bool) (outer : NextPart) (s : State) (before : Spans) (r : Result Value DecodeError) (new : State) (fault : Option UnreadValue) (after : Spans)
       → ReadsPart types keep outer s before r new fault after → ReadsWithin types keep outer s before [] outer.index r new fault after
-  pub not_read_with_another_index : (types : List «Type») (keep : Bool) (outer : NextPart) (s : State) (before : Spans) (index : ℕ) (r : Result Value DecodeError) (new : State) (fault : Option Fault) (after : Spans)
+  pub not_read_with_another_index : (types : List «Type») (keep : Bool) (outer : NextPart) (s : State) (before : Spans) (index : ℕ) (r : Result Value DecodeError) (new : State) (fault : Option UnreadValue) (after : Spans)
       → (outer.index ≡ index → ⊥) → ReadsWithin types keep outer s before [] index r new fault after → ⊥
   pub value_in_its_place_is_returned : (u : Unit {0}) (v : Value) (e : DecodeError) → outcome (Ok u) v e ≡ Ok v
-  pub error_in_its_place_is_returned : (r : Refused) (v : Value) (e : DecodeError) → outcome (Err r) v e ≡ Err e
-  pub no_value_of_what_is_refused : (r : Refused) (v w : Value) (e : DecodeError) → outcome (Err r) v e ≡ Ok w → ⊥
+  pub error_in_its_place_is_returned : (r : Refused) (v : Value) (e : DecodeError) → outcome {S = Unit {0}} (Err r) v e ≡ Err e
+  pub no_value_of_what_is_refused : (r : Refused) (v w : Value) (e : DecodeError) → outcome {S = Unit {0}} (Err r) v e ≡ Ok w → ⊥
   pub no_error_of_what_is_read : (u : Unit {0}) (v : Value) (e d : DecodeError) → outcome (Ok u) v e ≡ Err d → ⊥
   pub value_is_reported : (v : Value) (e : DecodeError) → reported (Ok v) e ≡ Ok v
   pub error_is_reported : (r : Refused) (e : DecodeError) → reported {T = Value} (Err r) e ≡ Err e

@@ -1,5 +1,5 @@
 -- Lists of parts that were worked out by hand, and what is none.
-use Rattle.std.specs.Prelude.{◌≡◌, ◌-◌, ◌^◌, ℕ, Bool, List, [], ◌∷◌, true, false, None, Vec}
+use Rattle.std.specs.Prelude.{◌≡◌, ◌-◌, ◌^◌, ℕ, Bool, List, [], ◌∷◌, true, false, Some, None, Vec}
 use Rattle.std.specs.Global.{Global}
 use Rattle.rasn_types.specs.declared.types.codec.Codec.TheVariants.{Der}
 use Rattle.rasn_types.specs.Framing.{NextTag}
@@ -17,9 +17,9 @@ use Rattle.rasn_schema.specs.FirstTags.{IsAlternativeFor}
 use Rattle.rasn_dynamic.specs.declared.part.Part.{Part}
 use Rattle.rasn_dynamic.specs.declared.span.Span.{Span}
 use Rattle.rasn_dynamic.specs.Faults.{start}
-use Rattle.rasn_dynamic.specs.Listed.{capped, InTurn, ElementsListed, MembersListed, PartsInside, Inside, IsCut}
+use Rattle.rasn_dynamic.specs.Listed.{capped, depth_at, wanted_of, InTurn, ElementsListed, MembersListed, PartsInside, Inside, IsCut}
 use Rattle.rasn_dynamic.specs.Sets.{last_type}
-use Rattle.rasn_dynamic.specs.Walk.{path_at_depth}
+use Rattle.rasn_dynamic.specs.Walk.{open_of, path_at_depth}
 use Rattle.rasn_dynamic.specs.Parts.{AreContents, LacksAlternative}
 use Rattle.rasn_dynamic.specs.LeadsTo.{LeadsTo}
 use Rattle.rasn_dynamic.specs.SameParts.{IsSamePart, AreReadableTypes}
@@ -42,7 +42,7 @@ a_null = 5 ∷ 0 ∷ []
 
 -- A part with these octets, at the end of a message, of a type with the number 6.
 abbrev pub IsNullAtEnd : ℕ → Span → Type 0
-IsNullAtEnd k e = (e.id.0 ≡ 6) × (e.index ≡ k) × (e.levels ≡ 9) × (e.left ≡ 2) × (e.octets.now ≡ a_null)
+IsNullAtEnd k e = (e.id.0 ≡ 6) × (e.index ≡ k) × (e.depth ≡ 2 ^ 64 - 10) × (e.left ≡ 2) × (e.octets.now ≡ a_null)
 
 -- What is inside doesn't matter.
 abbrev pub anything_inside : ℕ → ℕ → State → List Span → Type 0
@@ -55,6 +55,12 @@ AreOfOpenSet extensible f es = MembersListed f 9 anything_inside extensible [] 6
 pub record WorkedParts : Type 0 where
   pub within_64_bits : capped 2 3 ≡ 5
   pub not_past_64_bits : capped (2 ^ 64 - 1) 1 ≡ 2 ^ 64 - 1
+  pub outermost : depth_at (2 ^ 64 - 1) ≡ 0
+  pub two_levels_further_in : depth_at (2 ^ 64 - 3) ≡ 2
+  pub all_listed : (e : Span) → wanted_of None (e ∷ []) ≡ e ∷ []
+  pub unwanted_left_out : (types : Vec Bool Global) (e : Span) → types.items ≡ false ∷ (true ∷ []) → e.id.0 ≡ 0 → wanted_of (Some types) (e ∷ []) ≡ []
+  pub unknown_value_is_open : (e : Span) → e.id.0 ≡ 0 → open_of (Unknown ∷ []) (e ∷ []) ≡ e ∷ []
+  pub a_sequence_is_not_open : (ps : Vec Component Global) (e : Span) → e.id.0 ≡ 0 → open_of (sequence_alone ps) (e ∷ []) ≡ []
   pub path_of_an_inner_part : path_at_depth 2 (0 ∷ 4 ∷ 7 ∷ []) 3 ≡ 0 ∷ 3 ∷ []
   pub path_of_the_message : path_at_depth 0 (1 ∷ []) 5 ≡ []
   pub before_the_rest : IsCut (1 ∷ 2 ∷ 3 ∷ []) (3 ∷ []) (1 ∷ 2 ∷ [])

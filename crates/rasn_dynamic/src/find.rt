@@ -6,7 +6,7 @@ ghost use Rattle.rasn_schema.specs.Shapes.{shape_of_type, type_by, components_by
 ghost use Rattle.rasn_dynamic.specs.Inside.{ReadsComponent};
 ghost use Rattle.rasn_dynamic.specs.Sets.{AreLawfulMembers};
 ghost use Rattle.rasn_dynamic.specs.Faults.{IsAlternativeAt, IsComponentAt, IsMemberAt, IsElementAt, IsPart, Leads, IsLocated, start};
-ghost use Rattle.rasn_dynamic.specs.Parts.{IsSeen, LacksAlternative, IsAbsentHere, LacksComponent, LacksMember, LacksElement, LacksPart, IsEntered, LacksPartAt, LacksPath, IsReadHere, IsPartAt, IsHeaderOf, PassesBy, PassesPresent, PassesElement};
+ghost use Rattle.rasn_dynamic.specs.Parts.{IsSeen, LacksAlternative, IsAbsentHere, LacksComponent, LacksMember, LacksElement, LacksPart, IsEntered, LacksPartAt, LacksPath, IsReadHere, IsPartAt, PassesBy, PassesPresent, PassesElement};
 
 use crate::components::{is_always_there, leaves_all_out};
 use crate::locate::{check_or_locate, out_of_memory};
@@ -14,12 +14,13 @@ use crate::made::Nothing;
 use crate::order::octets_before;
 use crate::part::{Part, part_header};
 use crate::read_leaf::decode_any_value;
-use crate::reader::{decode_at, decode_component, decode_present, is_next};
+use crate::reader::{decode_at, decode_component, decode_present, header_for, is_next};
 use crate::refusal::Refusal;
 use crate::refuse::{extra, no_value};
 use crate::set::{component_for, named_components};
 use crate::span::no_list;
 use crate::trace::octets_after;
+use crate::types::Types;
 use crate::walk::new_walk;
 use rasn_de::ber::de::{ConstructedHeader, Decoder, DecoderOptions};
 use rasn_schema::{Alternative, Component, Schema, Type, TypeId, Value, alternative_for, type_at};
@@ -29,7 +30,7 @@ use std::alloc::Global;
 
 /// Where a value begins.
 #[derive(Drop)]
-struct Place<'input> {
+struct Cursor<'input> {
     /// Reads there.
     decoder: Decoder<'input>,
     /// Where what the decoder sees ends, in octets from the start of the message.
@@ -40,22 +41,8 @@ struct Place<'input> {
     levels: usize,
 }
 
-/// Returns the header of a value of the type, if the value holds others after one.
-fn header_for(ty: &Type) -> Option<ConstructedHeader>
-    ensures { IsHeaderOf ty.now result }
-{
-    match ty {
-        Type::Tagged { tag, .. } => Some(ConstructedHeader::prefix(*tag)),
-        Type::Sequence { tag, .. } => Some(ConstructedHeader::sequence(*tag)),
-        Type::Set { tag, .. } => Some(ConstructedHeader::sequence(*tag)),
-        Type::SequenceOf { tag, .. } => Some(ConstructedHeader::list(*tag)),
-        Type::SetOf { tag, .. } => Some(ConstructedHeader::list(*tag)),
-        _ => None,
-    }
-}
-
 /// Goes to the contents of a value of the type, if it has a header before them.
-fn enter(place: &mut Place<'_>, ty: &Type) -> Result<(), DecodeError>
+fn enter(place: &mut Cursor<'_>, ty: &Type) -> Result<(), DecodeError>
     requires seen { length place.old.decoder.rest ≤ place.old.end }
     ensures entered { OnOk result (IsEntered ty.now place.old.decoder place.new.decoder) }
     ensures seen { OnOk result (IsSeen place.old.decoder.rest place.old.end place.new.decoder.rest place.new.end) }
@@ -103,7 +90,11 @@ fn component_here(
     if is_always_there(component) {
         return Ok(Some(component.type_id));
     }
-    match is_next(decoder, types, below, component.type_id) {
+    let types = Types {
+        list: types,
+        levels: below,
+    };
+    match is_next(decoder, &types, component.type_id) {
         Ok(true) => Ok(Some(component.type_id)),
         Ok(false) => Ok(None),
         Err(error) => Err(error),
@@ -122,7 +113,11 @@ fn pass_component(
 {
     let mut walk = new_walk(decoder.codec(), no_list());
     let mut value = Value::Absent;
-    match decode_component::<Nothing>(decoder, &mut walk, types, below, component, 0, &mut value) {
+    let types = Types {
+        list: types,
+        levels: below,
+    };
+    match decode_component::<Nothing>(decoder, &mut walk, &types, component, 0, &mut value) {
         Ok(()) => Ok(()),
         Err(_) => Err(walk.error),
     }
@@ -178,7 +173,11 @@ fn pass_member(
     let left = decoder.remaining().len();
     let mut walk = new_walk(decoder.codec(), no_list());
     let mut value = Value::Absent;
-    match decode_present::<Nothing>(decoder, &mut walk, types, below, component, 0, &mut value) {
+    let types = Types {
+        list: types,
+        levels: below,
+    };
+    match decode_present::<Nothing>(decoder, &mut walk, &types, component, 0, &mut value) {
         Ok(()) => check_taken(decoder, left),
         Err(_) => Err(walk.error),
     }
@@ -241,7 +240,11 @@ fn pass_element(
     let left = decoder.remaining().len();
     let mut walk = new_walk(decoder.codec(), no_list());
     let mut value = Value::Absent;
-    match decode_at::<Nothing>(decoder, &mut walk, types, below, element, &mut value) {
+    let types = Types {
+        list: types,
+        levels: below,
+    };
+    match decode_at::<Nothing>(decoder, &mut walk, &types, element, &mut value) {
         Ok(()) => check_taken(decoder, left),
         Err(_) => Err(walk.error),
     }
@@ -309,7 +312,7 @@ fn go_inside(
 }
 
 /// Goes from a value to its part with this index. Returns whether the part is present.
-fn go_to_part(place: &mut Place<'_>, types: &[Type], index: usize) -> Result<bool, DecodeError>
+fn go_to_part(place: &mut Cursor<'_>, types: &[Type], index: usize) -> Result<bool, DecodeError>
     requires lawful { IsReadable (shape_of_type types.now place.old.levels place.old.id.0) }
     requires seen { length place.old.decoder.rest ≤ place.old.end }
     ensures found { IfOk result (λ found. MatchBool found (Leads types.now (index ∷ []) place.old.levels place.old.id.0 place.old.decoder place.new.levels place.new.id.0 place.new.decoder) (LacksPartAt types.now place.old.levels place.old.id.0 place.old.decoder index)) }
@@ -335,7 +338,7 @@ fn go_to_part(place: &mut Place<'_>, types: &[Type], index: usize) -> Result<boo
 }
 
 /// Goes along a path. Returns whether there is a part at its end.
-fn go_along(place: &mut Place<'_>, types: &[Type], path: &[usize]) -> Result<bool, DecodeError>
+fn go_along(place: &mut Cursor<'_>, types: &[Type], path: &[usize]) -> Result<bool, DecodeError>
     requires lawful { IsReadable (shape_of_type types.now place.old.levels place.old.id.0) }
     requires seen { length place.old.decoder.rest ≤ place.old.end }
     ensures found { IfOk result (λ found. MatchBool found (Leads types.now path.now place.old.levels place.old.id.0 place.old.decoder place.new.levels place.new.id.0 place.new.decoder) (LacksPath types.now path.now place.old.levels place.old.id.0 place.old.decoder)) }
@@ -354,7 +357,10 @@ fn go_along(place: &mut Place<'_>, types: &[Type], path: &[usize]) -> Result<boo
 }
 
 /// Reads the value at a place, and returns where it is.
-fn read_part<'input>(place: &mut Place<'input>, types: &[Type]) -> Result<Part<'input>, DecodeError>
+fn read_part<'input>(
+    place: &mut Cursor<'input>,
+    types: &[Type],
+) -> Result<Part<'input>, DecodeError>
     requires lawful { IsReadable (shape_of_type types.now place.old.levels place.old.id.0) }
     requires seen { length place.old.decoder.rest ≤ place.old.end }
     ensures read { IfOk result (λ p. IsReadHere types.now place.old.levels place.old.id.0 place.old.decoder p.octets.now p.header_len p.is_indefinite) }
@@ -363,14 +369,11 @@ fn read_part<'input>(place: &mut Place<'input>, types: &[Type]) -> Result<Part<'
     let start = place.decoder.remaining();
     let mut walk = new_walk(place.decoder.codec(), no_list());
     let mut value = Value::Absent;
-    match decode_at::<Nothing>(
-        &mut place.decoder,
-        &mut walk,
-        types,
-        place.levels,
-        place.id,
-        &mut value,
-    ) {
+    let types = Types {
+        list: types,
+        levels: place.levels,
+    };
+    match decode_at::<Nothing>(&mut place.decoder, &mut walk, &types, place.id, &mut value) {
         Ok(()) => {
             let octets = octets_before(start, place.decoder.remaining());
             let (header_len, is_indefinite) = part_header(place.decoder.alloc(), octets)?;
@@ -398,7 +401,7 @@ fn read_along<'input>(
     ensures found { IfOk result (λ found. MatchOption found (LacksPath schema.now.types.items path.now 18446744073709551615 id.0 (start rule input.now)) (IsPartAt schema.now.types.items rule id.0 input.now path.now)) }
 {
     let types = schema.types();
-    let mut place = Place {
+    let mut place = Cursor {
         decoder: Decoder::new(alloc, input, DecoderOptions::of(rule)),
         end: input.len(),
         id,

@@ -6,13 +6,14 @@ ghost use Rattle.rasn_schema.specs.Trees.{tree_of};
 ghost use Rattle.rasn_dynamic.specs.Entry.{FitsType, IsCheckedUpTo, IsReadFirst, shape_of};
 ghost use Rattle.rasn_dynamic.specs.Faults.{IsLocated, IsRefusalOf, start, unlocated};
 ghost use Rattle.rasn_dynamic.specs.Listed.{Lists, PartsInside};
-ghost use Rattle.rasn_dynamic.specs.declared.trace.Fault.{Fault};
+ghost use Rattle.rasn_dynamic.specs.declared.trace.UnreadValue.{UnreadValue};
 
 use crate::made::{Made, Nothing, Values};
 use crate::reader::decode_at;
 use crate::refusal::Refusal;
 use crate::span::{Spans, no_list};
-use crate::trace::{Fault, octets_left};
+use crate::trace::{UnreadValue, octets_left};
+use crate::types::Types;
 use crate::walk::new_walk;
 use rasn_de::ber::de::{Decoder, DecoderOptions};
 use rasn_schema::{Schema, TypeId, Value};
@@ -24,11 +25,11 @@ use std::alloc::Global;
 pub(crate) fn refusal_of(
     alloc: Global,
     error: DecodeError,
-    trace: Option<Fault>,
+    trace: Option<UnreadValue>,
     id: TypeId,
     len: usize,
 ) -> Refusal
-    requires { (f : Fault) → trace ≡ Some f → f.left ≤ len }
+    requires { (f : UnreadValue) → trace ≡ Some f → f.left ≤ len }
     ensures { IsRefusalOf error trace len result }
 {
     match trace {
@@ -92,23 +93,19 @@ pub(crate) fn read_first<'input, M: Made>(
     ensures short { length input.now < 2 ^ 64 }
 {
     let mut decoder = Decoder::new(alloc, input, DecoderOptions::of(rule));
-    // The octets have a number of this type, so the places in them have too.
-    let _ = octets_left(&decoder);
+    let len = octets_left(&decoder);
     let mut walk = new_walk(rule, std::mem::replace(spans, no_list()));
     let mut value = Value::Absent;
-    match decode_at::<M>(
-        &mut decoder,
-        &mut walk,
-        schema.types(),
-        usize::MAX,
-        id,
-        &mut value,
-    ) {
+    let types = Types {
+        list: schema.types(),
+        levels: usize::MAX,
+    };
+    match decode_at::<M>(&mut decoder, &mut walk, &types, id, &mut value) {
         Ok(()) => {
             *spans = walk.spans;
             Ok((value, decoder.remaining()))
         }
-        Err(_) => Err(refusal_of(alloc, walk.error, walk.fault, id, input.len())),
+        Err(_) => Err(refusal_of(alloc, walk.error, walk.fault, id, len)),
     }
 }
 

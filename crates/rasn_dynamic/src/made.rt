@@ -9,9 +9,10 @@ ghost use Rattle.rasn_dynamic.specs.Faults.{IsFaultIn, IsOnly, TellsOf};
 ghost use Rattle.rasn_dynamic.specs.Listed.{Lists, Inside, PartListed};
 
 use crate::reader::decode_part;
+use crate::types::Types;
 use crate::walk::{Refused, Walk};
 use rasn_de::ber::de::Decoder;
-use rasn_schema::{Type, TypeId, Value};
+use rasn_schema::{TypeId, Value};
 
 /// Whether a reader builds values, or only checks.
 pub trait Made {
@@ -24,19 +25,18 @@ pub trait Made {
     fn decode_value<'input>(
         decoder: &mut Decoder<'input>,
         walk: &mut Walk<'input>,
-        types: &[Type],
-        levels: usize,
+        types: &Types<'_>,
         id: TypeId,
         index: usize,
         out: &mut Value<'input>,
     ) -> Option<Result<(), Refused>>
-        requires lawful { IsReadable (shape_of_type types.now levels id.0) }
+        requires lawful { IsReadable (shape_of_type types.now.list.now types.now.levels id.0) }
         requires clear { walk.old.fault ≡ None }
-        ensures reads { MatchOption result ((KEEP ≡ true) × (decoder.new ≡ decoder.old) × (walk.new.fault ≡ None)) (λ r. Making true tree_of (DecodesTree (shape_of_type types.now levels id.0)) decoder.old (outcome r out.new walk.new.error) decoder.new) }
-        ensures fits { IfSome result (λ r. IfOk (outcome r out.new walk.new.error) (λ v. Fits types.now levels id.0 v)) }
+        ensures reads { MatchOption result ((KEEP ≡ true) × (decoder.new ≡ decoder.old) × (walk.new.fault ≡ None)) (λ r. Making true tree_of (DecodesTree (shape_of_type types.now.list.now types.now.levels id.0)) decoder.old (outcome r out.new walk.new.error) decoder.new) }
+        ensures fits { IfSome result (λ r. IfOk (outcome r out.new walk.new.error) (λ v. Fits types.now.list.now types.now.levels id.0 v)) }
         ensures rules { IfSome result (λ r. IfErr (outcome r out.new walk.new.error) (λ e. e.codec ≡ decoder.old.rule)) }
-        ensures told { IfSome result (λ r. TellsOf (IsFaultIn types.now levels (IsOnly index id.0 decoder.old) decoder.old decoder.old) (outcome r out.new walk.new.error) walk.new.fault) }
-        ensures listed { MatchOption result (walk.new.spans ≡ walk.old.spans) (λ r. IfOk (outcome r out.new walk.new.error) (λ v. Lists (λ b es. PartListed (shape_of_type types.now levels) levels (Inside types.now levels) id.0 index b decoder.old decoder.new es) walk.old.spans walk.new.spans)) };
+        ensures told { IfSome result (λ r. TellsOf (IsFaultIn types.now.list.now types.now.levels (IsOnly index id.0 decoder.old) decoder.old decoder.old) (outcome r out.new walk.new.error) walk.new.fault) }
+        ensures listed { MatchOption result (walk.new.spans ≡ walk.old.spans) (λ r. IfOk (outcome r out.new walk.new.error) (λ v. Lists (λ b es. PartListed (shape_of_type types.now.list.now types.now.levels) types.now.levels (Inside types.now.list.now types.now.levels) id.0 index b decoder.old decoder.new es) walk.old.spans walk.new.spans)) };
 }
 
 /// Values.
@@ -54,8 +54,7 @@ impl Made for Values {
     fn decode_value<'input>(
         _decoder: &mut Decoder<'input>,
         _walk: &mut Walk<'input>,
-        _types: &[Type],
-        _levels: usize,
+        _types: &Types<'_>,
         _id: TypeId,
         _index: usize,
         _out: &mut Value<'input>,
@@ -72,12 +71,11 @@ impl Made for Nothing {
     fn decode_value<'input>(
         decoder: &mut Decoder<'input>,
         walk: &mut Walk<'input>,
-        types: &[Type],
-        levels: usize,
+        types: &Types<'_>,
         id: TypeId,
         index: usize,
         out: &mut Value<'input>,
     ) -> Option<Result<(), Refused>> {
-        Some(decode_part::<Values>(decoder, walk, types, levels, id, index, out))
+        Some(decode_part::<Values>(decoder, walk, types, id, index, out))
     }
 }

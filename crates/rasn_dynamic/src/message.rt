@@ -1,15 +1,18 @@
 //! The parts of a message, one after the other.
-ghost use Rattle.std.specs.Prelude.{◌≡◌, ◌⊎◌, [], OnOk, OnErr, IfOk, IfErr};
+ghost use Rattle.std.specs.Prelude.{◌≡◌, ◌⊎◌, List, [], map, Err, OnOk, OnErr, IfOk, IfErr};
 ghost use Rattle.rasn_types.specs.Errors.{IsOutOfMemory};
+ghost use Rattle.rasn_dynamic.specs.Entry.{IsCheckedUpTo, shape_of};
 ghost use Rattle.rasn_dynamic.specs.Faults.{IsLocated};
-ghost use Rattle.rasn_dynamic.specs.Walk.{ArePartsOf, IsNextOf, path_at_depth};
+ghost use Rattle.rasn_dynamic.specs.Listed.{IsEmpty, wanted_of};
+ghost use Rattle.rasn_dynamic.specs.Walk.{AreOpenPartsOf, AreParts, ArePartsOf, IsNextOf, is_open_type, path_at_depth};
+ghost use Rattle.rasn_dynamic.specs.declared.span.Span.{Span};
 
 use crate::locate::{out_of_memory, read_first};
 use crate::made::Nothing;
 use crate::part::{Part, part_header};
 use crate::refusal::Refusal;
-use crate::span::{Span, finish, list_of, new_list, note};
-use rasn_schema::{Schema, TypeId};
+use crate::span::{Span, Spans, finish, list_of, new_list, new_list_of, note};
+use rasn_schema::{Schema, Type, TypeId};
 use rasn_types::error::{DecodeError, DecodeErrorKind};
 use rasn_types::types::Codec;
 use std::alloc::{AllocError, Global};
@@ -28,6 +31,15 @@ pub struct MessageParts<'input> {
     pub next: usize,
     /// The path of the last of those, for `find_part`.
     pub path: Vec<usize>,
+}
+
+/// Parts of a message, and what follows the message.
+#[derive(Drop)]
+pub struct ListedParts<'input> {
+    /// The parts in the order of their octets.
+    pub list: Vec<Span<'input>>,
+    /// What follows the value.
+    pub rest: &'input [u8],
 }
 
 /// Reads the value at the front of the input, and returns its parts, the value itself among them.
@@ -56,21 +68,99 @@ pub fn parts_of<'input>(
 ) -> Result<MessageParts<'input>, Refusal>
     ensures parts { IfOk result (ArePartsOf schema.now.types.items rule id.0 input.now) }
     ensures located { IfErr result (λ r. IsOutOfMemory r.error.kind ⊎ IsLocated schema.now.types.items rule id.0 input.now r) }
+    ensures exact { IfErr result (λ r. IsOutOfMemory r.error.kind ⊎ IsCheckedUpTo rule (shape_of schema.now.types.items id.0) input.now (Err r.error)) }
     ensures rules { IfErr result (λ r. r.error.codec ≡ rule) }
 {
-    let mut spans = new_list(alloc, input.len());
+    let spans = new_list(alloc, input.len());
+    match wanted_parts(alloc, rule, schema, id, input, spans) {
+        Ok(found) => Ok(MessageParts {
+            list: found.list,
+            input,
+            next: 0,
+            path: empty_path(alloc),
+        }),
+        Err(refusal) => Err(refusal),
+    }
+}
+
+/// Reads the value at the front of the input, and returns those of its parts that are values of an
+/// open type or unknown values, with what follows the value. No value is made, as by `check`.
+///
+/// # Errors
+/// As [`check_or_locate`](crate::check_or_locate), or if memory for the list of parts runs out.
+///
+/// # Examples
+/// ```
+/// // `id` is the number of SEQUENCE { name IA5String, ok BOOLEAN } in `schema`.
+/// let octets: &[u8] = &[0x30, 0x05, 0x16, 0x00, 0x01, 0x01, 0xFF];
+/// let parts = rasn_dynamic::open_parts_of(alloc, Codec::Der, &schema, id, octets)?;
+/// // `parts.list` is empty, and so is `parts.rest`.
+/// ```
+pub fn open_parts_of<'input>(
+    alloc: Global,
+    rule: Codec,
+    schema: &Schema,
+    id: TypeId,
+    input: &'input [u8],
+) -> Result<ListedParts<'input>, Refusal>
+    ensures parts { IfOk result (AreOpenPartsOf schema.now.types.items rule id.0 input.now) }
+    ensures refused { IfErr result (λ r. IsOutOfMemory r.error.kind ⊎ (IsLocated schema.now.types.items rule id.0 input.now r × IsCheckedUpTo rule (shape_of schema.now.types.items id.0) input.now (Err r.error))) }
+    ensures rules { IfErr result (λ r. r.error.codec ≡ rule) }
+{
+    match open_types(alloc, schema.types()) {
+        Ok(open) => {
+            let spans = new_list_of(alloc, open);
+            wanted_parts(alloc, rule, schema, id, input, spans)
+        }
+        Err(_) => Err(out_of_memory(alloc, rule, id)),
+    }
+}
+
+/// Returns whether values of a type are those of an open type, or unknown values.
+fn is_open_type(ty: &Type) -> bool
+    ensures { result ≡ is_open_type ty.now }
+{
+    match ty {
+        Type::Any { .. } => true,
+        Type::Unknown => true,
+        _ => false,
+    }
+}
+
+/// Returns the same for each type.
+fn open_types(alloc: Global, types: &[Type]) -> Result<Vec<bool>, AllocError>
+    ensures { IfOk result (λ v. v.items ≡ map is_open_type types.now) }
+{
+    let mut open = Vec::new(alloc);
+    for ty in types {
+        open.push(is_open_type(ty))?;
+    }
+    Ok(open)
+}
+
+/// Reads the value at the front of the input, and returns its parts that are wanted, with what
+/// follows the value.
+fn wanted_parts<'input>(
+    alloc: Global,
+    rule: Codec,
+    schema: &Schema,
+    id: TypeId,
+    input: &'input [u8],
+    spans: Spans<'input>,
+) -> Result<ListedParts<'input>, Refusal>
+    requires { IsEmpty spans }
+    ensures parts { IfOk result (λ o. (all : List Span) × AreParts schema.now.types.items rule id.0 input.now o.rest.now all × (o.list.items ≡ wanted_of spans.entry.wanted all)) }
+    ensures refused { IfErr result (λ r. IsOutOfMemory r.error.kind ⊎ (IsLocated schema.now.types.items rule id.0 input.now r × IsCheckedUpTo rule (shape_of schema.now.types.items id.0) input.now (Err r.error))) }
+    ensures rules { IfErr result (λ r. r.error.codec ≡ rule) }
+{
+    let mut spans = spans;
     let place = note(&mut spans, id, 0, usize::MAX, input);
     match read_first::<Nothing>(alloc, rule, schema, id, input, &mut spans) {
         Ok((value, rest)) => {
             drop(value);
             finish(&mut spans, place, rest);
             match list_of(spans) {
-                Some(list) => Ok(MessageParts {
-                    list,
-                    input,
-                    next: 0,
-                    path: empty_path(alloc),
-                }),
+                Some(list) => Ok(ListedParts { list, rest }),
                 None => Err(out_of_memory(alloc, rule, id)),
             }
         }
@@ -118,9 +208,9 @@ impl<'input> MessageParts<'input> {
             return Ok(None);
         };
         let (id, index, octets) = (span.id, span.index, span.octets);
-        let (levels, left) = (span.levels, span.left);
+        let (depth, left) = (span.depth, span.left);
         let (header_len, is_indefinite) = part_header(alloc, octets)?;
-        if go_along(&mut self.path, usize::MAX - levels, index).is_err() {
+        if go_along(&mut self.path, depth, index).is_err() {
             return Err(DecodeError {
                 kind: DecodeErrorKind::OutOfMemory,
                 codec: Codec::Ber,

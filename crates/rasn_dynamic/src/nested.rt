@@ -13,7 +13,7 @@ ghost use Rattle.rasn_dynamic.specs.declared.span.Spans.{Spans};
 ghost use Rattle.rasn_dynamic.specs.Making.{outcome, reported};
 ghost use Rattle.rasn_dynamic.specs.Nested.{IsChoiceHere, IsNoChoice, GoesDown, Descends, Leaves, ReadsPart, ReadsWithin};
 ghost use Rattle.rasn_dynamic.specs.Faults.{IsMarked, IsStepped};
-ghost use Rattle.rasn_dynamic.specs.declared.trace.Fault.{Fault};
+ghost use Rattle.rasn_dynamic.specs.declared.trace.UnreadValue.{UnreadValue};
 
 use crate::made::Made;
 use crate::refuse::{refuse_choice, refuse_memory};
@@ -175,7 +175,7 @@ pub fn descend<'input>(
 
 /// Names the part that a CHOICE is, unless something inside it is named.
 fn name_part(decoder: &Decoder<'_>, walk: &mut Walk<'_>, choice: OuterChoice)
-    ensures marked { (mid : Option Fault) × IsMarked choice.id choice.left walk.old.fault mid × IsStepped choice.index mid walk.new.fault }
+    ensures marked { (mid : Option UnreadValue) × IsMarked choice.id choice.left walk.old.fault mid × IsStepped choice.index mid walk.new.fault }
     ensures same { (walk.new.error ≡ walk.old.error) × (walk.new.spans ≡ walk.old.spans) }
 {
     let alloc = decoder.alloc();

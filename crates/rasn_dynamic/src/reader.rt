@@ -1,5 +1,5 @@
 //! Reads a value of a type.
-ghost use Rattle.std.specs.Prelude.{◌≡◌, ◌≢◌, ◌⊎◌, ◌++◌, ◌∷◌, List, [], length, reverse, true, false, slice_get, None, Err, OnOk, IfOk, IfErr};
+ghost use Rattle.std.specs.Prelude.{◌≡◌, ◌≢◌, ◌⊎◌, ◌<◌, ◌^◌, ◌++◌, ◌∷◌, List, [], length, reverse, true, false, slice_get, Some, None, Err, OnOk, IfOk, IfErr};
 ghost use Rattle.rasn_types.specs.Framing.{Ended, NextTag};
 ghost use Rattle.rasn_types.specs.Errors.{IsOutOfMemory};
 ghost use Rattle.rasn_types.specs.Shapes.{any, unknown as unknown_values, items, sought_by};
@@ -16,14 +16,15 @@ ghost use Rattle.rasn_schema.specs.declared.types.Presence.TheVariants.{Default}
 ghost use Rattle.rasn_schema.specs.declared.value.Value.{Items, Elements};
 ghost use Rattle.rasn_types.specs.Tags.{IsStrict, eoc, form};
 ghost use Rattle.rasn_types.specs.Trees.{unconstrained};
-ghost use Rattle.rasn_schema.specs.declared.types.«Type».TheVariants.{Tagged, Sequence, Set, SequenceOf, SetOf};
+ghost use Rattle.rasn_schema.specs.declared.types.«Type».TheVariants.{Sequence, Set, SequenceOf, SetOf};
 ghost use Rattle.rasn_schema.specs.Trees.{tree_of};
 ghost use Rattle.rasn_schema.specs.Shapes.{shape_of_type, type_by, alternatives_by, choice_among, components_by, key_of, presence_in, presence_of, IsReadable, AreReadable};
 ghost use Rattle.rasn_dynamic.specs.Inside.{ReadsSequence, DecodesTree, DecodesComponent};
-ghost use Rattle.rasn_dynamic.specs.Readers.{DecodesCounted, ReadsContents, ReadsType};
+ghost use Rattle.rasn_dynamic.specs.Parts.{IsHeaderOf};
+ghost use Rattle.rasn_dynamic.specs.Readers.{count_of, IsSizedAs, DecodesCounted, DecodesHeld, ReadsContents, ReadsType};
 ghost use Rattle.rasn_dynamic.specs.Nested.{ReadsPart, ReadsWithin};
 ghost use Rattle.rasn_dynamic.specs.Making.{Making, Counting, IsLength, outcome, reported, trees_of, these};
-ghost use Rattle.rasn_dynamic.specs.Typed.{Makes, elements, IsSized, MayRunOut, DecodesContents};
+ghost use Rattle.rasn_dynamic.specs.Typed.{HoldsOthers, IsSized, MayRunOut, DecodesContents};
 ghost use Rattle.rasn_dynamic.specs.Calls.{Gathers, any_required, is_required, IsMade, AreSettled, nones, names_of, IsAppended, DecodesPresent, DecodesMember, IsNoAlternative, IsNoMember};
 ghost use Rattle.rasn_schema.specs.Fitting.{Fits, IsChosen, AlternativeFits, ComponentFits, ComponentsFit, EachFits, AreOctets as AreOctetsValue};
 ghost use Rattle.rasn_dynamic.specs.Found.{FoundFit, MembersFit};
@@ -40,16 +41,17 @@ use crate::refuse::{
     refuse_size,
 };
 use crate::set::{
-    all_absent, component_for, gather, last_type, named_components, no_components, put,
+    Members, all_absent, component_for, gather, last_type, named_components, no_components, put,
 };
 use crate::span::{finish, go_inside, go_outside, note};
 use crate::trace::{mark, mark_part, octets_left, step};
+use crate::types::Types;
 use crate::walk::{Refused, Walk, count_after, kept, peek, peek_in_order};
 use rasn_de::ber::de::{ConstructedHeader, Decoder};
 use rasn_de::de::Error;
 use rasn_schema::{
     Alternative, Component, Presence, Type, TypeId, Value, alternative_for, begins, is_choice_at,
-    tag_at, type_at,
+    tag_at,
 };
 use rasn_types::error::DecodeError;
 use rasn_types::types::{Constraints, Tag};
@@ -100,7 +102,7 @@ fn keep<'input, M: Made>(
 
 /// Returns an error if the number of elements isn't within the bound.
 #[inline(always)]
-fn check_size(
+fn check_bound(
     decoder: &Decoder<'_>,
     error: &mut DecodeError,
     constraints: &Constraints,
@@ -114,6 +116,24 @@ fn check_size(
     }
     refuse_size(error, decoder, constraints, count);
     Err(Refused)
+}
+
+/// Returns an error if the type bounds the number of elements, and this isn't within the bound.
+#[inline(always)]
+fn check_size(
+    decoder: &Decoder<'_>,
+    error: &mut DecodeError,
+    ty: &Type,
+    count: usize,
+) -> Result<(), Refused>
+    ensures sized { IsSizedAs ty.now decoder.now count (reported result error.new) }
+    ensures rules { IfErr (reported result error.new) (λ e. e.codec ≡ decoder.now.rule) }
+{
+    match ty {
+        Type::SequenceOf { constraints, .. } => check_bound(decoder, error, constraints, count),
+        Type::SetOf { constraints, .. } => check_bound(decoder, error, constraints, count),
+        _ => Ok(()),
+    }
 }
 
 /// Returns an empty list, with room for so many values where values are kept.
@@ -236,29 +256,52 @@ fn decode_unknown_component<'input>(
     }
 }
 
-/// Reads a value of the type with this number. Types are followed `levels` deep. If it can't be
-/// read, names the innermost value that can't.
-#[cycle(decode)]
+/// Returns the header of a value of the type, if the value holds others after one.
 #[inline(always)]
+pub fn header_for(ty: &Type) -> Option<ConstructedHeader>
+    ensures { IsHeaderOf ty.now result }
+{
+    match ty {
+        Type::Tagged { tag, .. } => Some(ConstructedHeader::prefix(*tag)),
+        Type::Sequence { tag, .. } => Some(ConstructedHeader::sequence(*tag)),
+        Type::Set { tag, .. } => Some(ConstructedHeader::sequence(*tag)),
+        Type::SequenceOf { tag, .. } => Some(ConstructedHeader::list(*tag)),
+        Type::SetOf { tag, .. } => Some(ConstructedHeader::list(*tag)),
+        _ => None,
+    }
+}
+
+/// Reads a value of the type with this number. If it can't be read, names the innermost value that
+/// can't.
+#[cycle(decode)]
+#[inline(never)]
 pub fn decode_at<'input, M: Made>(
     decoder: &mut Decoder<'input>,
     walk: &mut Walk<'input>,
-    types: &[Type],
-    levels: usize,
+    types: &Types<'_>,
     id: TypeId,
     out: &mut Value<'input>,
 ) -> Result<(), Refused>
-    requires lawful { IsReadable (shape_of_type types.now levels id.0) }
+    requires lawful { IsReadable (shape_of_type types.now.list.now types.now.levels id.0) }
     requires clear { walk.old.fault ≡ None }
-    ensures reads { Making M.KEEP tree_of (DecodesTree (shape_of_type types.now levels id.0)) decoder.old (outcome result out.new walk.new.error) decoder.new }
-    ensures nothing { IfErr (outcome result out.new walk.new.error) (λ e. None ≡ slice_get types.now id.0 → IsErrorOf UnexpectedEmptyInput decoder.old e × (decoder.new ≡ decoder.old)) }
-    ensures fits { M.KEEP ≡ true → IfOk (outcome result out.new walk.new.error) (λ v. Fits types.now levels id.0 v) }
+    ensures reads { Making M.KEEP tree_of (DecodesTree (shape_of_type types.now.list.now types.now.levels id.0)) decoder.old (outcome result out.new walk.new.error) decoder.new }
+    ensures nothing { IfErr (outcome result out.new walk.new.error) (λ e. None ≡ slice_get types.now.list.now id.0 → IsErrorOf UnexpectedEmptyInput decoder.old e × (decoder.new ≡ decoder.old)) }
+    ensures fits { M.KEEP ≡ true → IfOk (outcome result out.new walk.new.error) (λ v. Fits types.now.list.now types.now.levels id.0 v) }
     ensures rules { IfErr (outcome result out.new walk.new.error) (λ e. e.codec ≡ decoder.old.rule) }
-    ensures told { TellsOf (IsFault types.now levels id.0 decoder.old) (outcome result out.new walk.new.error) walk.new.fault }
-    ensures listed { IfOk (outcome result out.new walk.new.error) (λ v. Lists (λ b es. PartsInside types.now levels id.0 b decoder.old es) walk.old.spans walk.new.spans) }
+    ensures told { TellsOf (IsFault types.now.list.now types.now.levels id.0 decoder.old) (outcome result out.new walk.new.error) walk.new.fault }
+    ensures listed { IfOk (outcome result out.new walk.new.error) (λ v. Lists (λ b es. PartsInside types.now.list.now types.now.levels id.0 b decoder.old es) walk.old.spans walk.new.spans) }
 {
-    let left = decoder.remaining().len();
-    match decode_found::<M>(decoder, walk, types, levels, id, out) {
+    let left = octets_left(decoder);
+    let Some(ty) = types.get(id) else {
+        refuse_no_value(&mut walk.error, decoder);
+        mark(decoder.alloc(), &mut walk.fault, id, left);
+        return Err(Refused);
+    };
+    let below = Types {
+        list: types.list,
+        levels: types.levels - 1,
+    };
+    match decode_type::<M>(decoder, walk, &below, ty, out) {
         Ok(()) => Ok(()),
         Err(refused) => {
             mark(decoder.alloc(), &mut walk.fault, id, left);
@@ -273,22 +316,22 @@ pub fn decode_at<'input, M: Made>(
 pub fn decode_part<'input, M: Made>(
     decoder: &mut Decoder<'input>,
     walk: &mut Walk<'input>,
-    types: &[Type],
-    levels: usize,
+    types: &Types<'_>,
     id: TypeId,
     index: usize,
     out: &mut Value<'input>,
 ) -> Result<(), Refused>
-    requires lawful { IsReadable (shape_of_type types.now levels id.0) }
+    requires lawful { IsReadable (shape_of_type types.now.list.now types.now.levels id.0) }
     requires clear { walk.old.fault ≡ None }
-    ensures reads { Making M.KEEP tree_of (DecodesTree (shape_of_type types.now levels id.0)) decoder.old (outcome result out.new walk.new.error) decoder.new }
-    ensures fits { M.KEEP ≡ true → IfOk (outcome result out.new walk.new.error) (λ v. Fits types.now levels id.0 v) }
+    ensures reads { Making M.KEEP tree_of (DecodesTree (shape_of_type types.now.list.now types.now.levels id.0)) decoder.old (outcome result out.new walk.new.error) decoder.new }
+    ensures fits { M.KEEP ≡ true → IfOk (outcome result out.new walk.new.error) (λ v. Fits types.now.list.now types.now.levels id.0 v) }
     ensures rules { IfErr (outcome result out.new walk.new.error) (λ e. e.codec ≡ decoder.old.rule) }
-    ensures told { TellsOf (IsFaultIn types.now levels (IsOnly index id.0 decoder.old) decoder.old decoder.old) (outcome result out.new walk.new.error) walk.new.fault }
-    ensures listed { IfOk (outcome result out.new walk.new.error) (λ v. Lists (λ b es. PartListed (shape_of_type types.now levels) levels (Inside types.now levels) id.0 index b decoder.old decoder.new es) walk.old.spans walk.new.spans) }
+    ensures told { TellsOf (IsFaultIn types.now.list.now types.now.levels (IsOnly index id.0 decoder.old) decoder.old decoder.old) (outcome result out.new walk.new.error) walk.new.fault }
+    ensures listed { IfOk (outcome result out.new walk.new.error) (λ v. Lists (λ b es. PartListed (shape_of_type types.now.list.now types.now.levels) types.now.levels (Inside types.now.list.now types.now.levels) id.0 index b decoder.old decoder.new es) walk.old.spans walk.new.spans) }
 {
-    let place = note(&mut walk.spans, id, index, levels, decoder.remaining());
-    match decode_at::<M>(decoder, walk, types, levels, id, out) {
+    let start = decoder.remaining();
+    let place = note(&mut walk.spans, id, index, types.levels, start);
+    match decode_at::<M>(decoder, walk, types, id, out) {
         Ok(()) => {
             finish(&mut walk.spans, place, decoder.remaining());
             Ok(())
@@ -306,56 +349,22 @@ pub fn decode_part<'input, M: Made>(
 fn decode_compared<'input, M: Made>(
     decoder: &mut Decoder<'input>,
     walk: &mut Walk<'input>,
-    types: &[Type],
-    levels: usize,
+    types: &Types<'_>,
     id: TypeId,
     index: usize,
     out: &mut Value<'input>,
 ) -> Result<(), Refused>
-    requires lawful { IsReadable (shape_of_type types.now levels id.0) }
+    requires lawful { IsReadable (shape_of_type types.now.list.now types.now.levels id.0) }
     requires clear { walk.old.fault ≡ None }
-    ensures reads { Making true tree_of (DecodesTree (shape_of_type types.now levels id.0)) decoder.old (outcome result out.new walk.new.error) decoder.new }
-    ensures fits { IfOk (outcome result out.new walk.new.error) (λ v. Fits types.now levels id.0 v) }
+    ensures reads { Making true tree_of (DecodesTree (shape_of_type types.now.list.now types.now.levels id.0)) decoder.old (outcome result out.new walk.new.error) decoder.new }
+    ensures fits { IfOk (outcome result out.new walk.new.error) (λ v. Fits types.now.list.now types.now.levels id.0 v) }
     ensures rules { IfErr (outcome result out.new walk.new.error) (λ e. e.codec ≡ decoder.old.rule) }
-    ensures told { TellsOf (IsFaultIn types.now levels (IsOnly index id.0 decoder.old) decoder.old decoder.old) (outcome result out.new walk.new.error) walk.new.fault }
-    ensures listed { IfOk (outcome result out.new walk.new.error) (λ v. Lists (λ b es. PartListed (shape_of_type types.now levels) levels (Inside types.now levels) id.0 index b decoder.old decoder.new es) walk.old.spans walk.new.spans) }
+    ensures told { TellsOf (IsFaultIn types.now.list.now types.now.levels (IsOnly index id.0 decoder.old) decoder.old decoder.old) (outcome result out.new walk.new.error) walk.new.fault }
+    ensures listed { IfOk (outcome result out.new walk.new.error) (λ v. Lists (λ b es. PartListed (shape_of_type types.now.list.now types.now.levels) types.now.levels (Inside types.now.list.now types.now.levels) id.0 index b decoder.old decoder.new es) walk.old.spans walk.new.spans) }
 {
-    match M::decode_value(decoder, walk, types, levels, id, index, out) {
+    match M::decode_value(decoder, walk, types, id, index, out) {
         Some(read) => read,
-        None => decode_part::<M>(decoder, walk, types, levels, id, index, out),
-    }
-}
-
-/// Reads a value of the type with this number. Names what can't be read inside it.
-#[cycle(decode)]
-fn decode_found<'input, M: Made>(
-    decoder: &mut Decoder<'input>,
-    walk: &mut Walk<'input>,
-    types: &[Type],
-    levels: usize,
-    id: TypeId,
-    out: &mut Value<'input>,
-) -> Result<(), Refused>
-    requires lawful { IsReadable (shape_of_type types.now levels id.0) }
-    requires clear { walk.old.fault ≡ None }
-    ensures reads { Making M.KEEP tree_of (DecodesTree (shape_of_type types.now levels id.0)) decoder.old (outcome result out.new walk.new.error) decoder.new }
-    ensures nothing { IfErr (outcome result out.new walk.new.error) (λ e. None ≡ slice_get types.now id.0 → IsErrorOf UnexpectedEmptyInput decoder.old e × (decoder.new ≡ decoder.old)) }
-    ensures fits { M.KEEP ≡ true → IfOk (outcome result out.new walk.new.error) (λ v. Fits types.now levels id.0 v) }
-    ensures rules { IfErr (outcome result out.new walk.new.error) (λ e. e.codec ≡ decoder.old.rule) }
-    ensures told { Told (IsFault types.now levels id.0 decoder.old) (outcome result out.new walk.new.error) walk.new.fault }
-    ensures itself { IfErr (outcome result out.new walk.new.error) (λ e. walk.new.fault ≡ None → FailsAt types.now levels id.0 decoder.old e) }
-    ensures listed { IfOk (outcome result out.new walk.new.error) (λ v. Lists (λ b es. PartsInside types.now levels id.0 b decoder.old es) walk.old.spans walk.new.spans) }
-{
-    if levels == 0 {
-        refuse_no_value(&mut walk.error, decoder);
-        return Err(Refused);
-    }
-    match type_at(types, id) {
-        Some(ty) => decode_type::<M>(decoder, walk, types, levels - 1, ty, out),
-        None => {
-            refuse_no_value(&mut walk.error, decoder);
-            Err(Refused)
-        }
+        None => decode_part::<M>(decoder, walk, types, id, index, out),
     }
 }
 
@@ -365,15 +374,18 @@ fn decode_found<'input, M: Made>(
 fn decode_type<'input, M: Made>(
     decoder: &mut Decoder<'input>,
     walk: &mut Walk<'input>,
-    types: &[Type],
-    below: usize,
+    types: &Types<'_>,
     ty: &Type,
     out: &mut Value<'input>,
 ) -> Result<(), Refused>
-    requires lawful { IsReadable (type_by (shape_of_type types.now below) ty.now) }
+    requires lawful { IsReadable (type_by (shape_of_type types.now.list.now types.now.levels) ty.now) }
+    requires short { length decoder.old.rest < 2 ^ 64 }
     requires clear { walk.old.fault ≡ None }
-    ensures { ReadsType types.now below M.KEEP ty.now decoder.old walk.old.spans (outcome result out.new walk.new.error) decoder.new walk.new.fault walk.new.spans }
+    ensures { ReadsType types.now.list.now types.now.levels M.KEEP ty.now decoder.old walk.old.spans (outcome result out.new walk.new.error) decoder.new walk.new.fault walk.new.spans }
 {
+    if let Some(header) = header_for(ty) {
+        return decode_enclosed::<M>(decoder, walk, types, ty, header, out);
+    }
     match ty {
         Type::Leaf {
             kind,
@@ -387,59 +399,94 @@ fn decode_type<'input, M: Made>(
         Type::Any { tag } => put_any::<M>(decoder, &mut walk.error, *tag, out),
         Type::Unknown => put_unknown::<M>(decoder, &mut walk.error, out),
         Type::Choice { name, alternatives } => {
-            decode_choice::<M>(
-                decoder,
-                walk,
-                types,
-                below,
-                name.as_str(),
-                alternatives,
-                out,
-            )
+            decode_choice::<M>(decoder, walk, types, name.as_str(), alternatives, out)
         }
-        Type::Tagged { tag, inner } => {
-            decode_tagged::<M>(decoder, walk, types, below, *tag, *inner, out)
+        _ => unreachable!(),
+    }
+}
+
+/// Reads a value that holds others: this header, what is inside, and its end (X.690 8.1).
+///
+/// # Errors
+/// `SizeConstraintNotSatisfied` if the number of elements isn't within the bound, which consumes
+/// the value.
+#[cycle(decode)]
+#[inline(never)]
+fn decode_enclosed<'input, M: Made>(
+    decoder: &mut Decoder<'input>,
+    walk: &mut Walk<'input>,
+    types: &Types<'_>,
+    ty: &Type,
+    header: ConstructedHeader,
+    out: &mut Value<'input>,
+) -> Result<(), Refused>
+    requires lawful { IsReadable (type_by (shape_of_type types.now.list.now types.now.levels) ty.now) }
+    requires header { IsHeaderOf ty.now (Some header) }
+    requires short { length decoder.old.rest < 2 ^ 64 }
+    requires clear { walk.old.fault ≡ None }
+    ensures { ReadsType types.now.list.now types.now.levels M.KEEP ty.now decoder.old walk.old.spans (outcome result out.new walk.new.error) decoder.new walk.new.fault walk.new.spans }
+{
+    let (mut inner, contents) = match decoder.open(header) {
+        Ok(opened) => opened,
+        Err(error) => {
+            walk.error = error;
+            return Err(Refused);
         }
-        Type::Sequence { tag, components } => {
-            decode_sequence::<M>(decoder, walk, types, below, *tag, components, out)
+    };
+    let after = go_inside(&mut walk.spans, decoder, &inner);
+    let read = decode_inside::<M>(&mut inner, walk, types, ty, out);
+    let count = count_after(decoder, &inner, &mut walk.fault, read)?;
+    match decoder.close(contents, inner.remaining()) {
+        Ok(()) => go_outside(&mut walk.spans, after),
+        Err(error) => {
+            walk.error = error;
+            return Err(Refused);
+        }
+    }
+    check_size(decoder, &mut walk.error, ty, count)
+}
+
+/// Reads what is inside a value that holds others. Returns the number of elements, if those are
+/// what it holds.
+#[cycle(decode)]
+#[inline(always)]
+fn decode_inside<'input, M: Made>(
+    decoder: &mut Decoder<'input>,
+    walk: &mut Walk<'input>,
+    types: &Types<'_>,
+    ty: &Type,
+    out: &mut Value<'input>,
+) -> Result<usize, Refused>
+    requires lawful { IsReadable (type_by (shape_of_type types.now.list.now types.now.levels) ty.now) }
+    requires holds { HoldsOthers ty.now }
+    requires short { length decoder.old.rest < 2 ^ 64 }
+    requires clear { walk.old.fault ≡ None }
+    ensures { ReadsContents types.now.list.now types.now.levels M.KEEP ty.now (DecodesHeld (shape_of_type types.now.list.now types.now.levels) ty.now (count_of result)) decoder.old walk.old.spans (outcome result out.new walk.new.error) decoder.new walk.new.fault walk.new.spans }
+{
+    match ty {
+        Type::Tagged { inner, .. } => {
+            decode_part::<M>(decoder, walk, types, *inner, 0, out)?;
+            Ok(0)
+        }
+        Type::Sequence { components, .. } => {
+            put_components::<M>(decoder, walk, types, components, out)?;
+            Ok(0)
         }
         Type::Set {
             name,
-            tag,
             components,
-        } => { decode_set::<M>(decoder, walk, types, below, *tag, name, components, out) }
-        Type::SequenceOf {
-            tag,
-            element,
-            constraints,
+            ..
         } => {
-            decode_sequence_of::<M>(
-                decoder,
-                walk,
-                types,
-                below,
-                *tag,
-                *element,
-                constraints,
-                out,
-            )
+            put_set_components::<M>(decoder, walk, types, name, components, out)?;
+            Ok(0)
         }
-        Type::SetOf {
-            tag,
-            element,
-            constraints,
-        } => {
-            decode_set_of::<M>(
-                decoder,
-                walk,
-                types,
-                below,
-                *tag,
-                *element,
-                constraints,
-                out,
-            )
+        Type::SequenceOf { element, .. } => {
+            put_elements::<M>(decoder, walk, types, *element, out)
         }
+        Type::SetOf { element, .. } => {
+            put_elements_in_order::<M>(decoder, walk, types, *element, out)
+        }
+        _ => unreachable!(),
     }
 }
 
@@ -454,33 +501,32 @@ fn decode_type<'input, M: Made>(
 fn decode_choice<'input, M: Made>(
     decoder: &mut Decoder<'input>,
     walk: &mut Walk<'input>,
-    types: &[Type],
-    below: usize,
+    types: &Types<'_>,
     name: &str,
     alternatives: &[Alternative],
     out: &mut Value<'input>,
 ) -> Result<(), Refused>
-    requires lawful { IsReadable (choice_among (alternatives_by (shape_of_type types.now below) alternatives.now)) }
+    requires lawful { IsReadable (choice_among (alternatives_by (shape_of_type types.now.list.now types.now.levels) alternatives.now)) }
     requires clear { walk.old.fault ≡ None }
-    ensures reads { Making M.KEEP tree_of (DecodesTree (choice_among (alternatives_by (shape_of_type types.now below) alternatives.now))) decoder.old (outcome result out.new walk.new.error) decoder.new }
-    ensures fits { M.KEEP ≡ true → IfOk (outcome result out.new walk.new.error) (λ v. IsChosen (AlternativeFits (Fits types.now below) alternatives.now) v) }
-    ensures unknown { IfErr (outcome result out.new walk.new.error) (λ e. IsNoAlternative (alternatives_by (shape_of_type types.now below) alternatives.now) name.now decoder.old e decoder.new) }
+    ensures reads { Making M.KEEP tree_of (DecodesTree (choice_among (alternatives_by (shape_of_type types.now.list.now types.now.levels) alternatives.now))) decoder.old (outcome result out.new walk.new.error) decoder.new }
+    ensures fits { M.KEEP ≡ true → IfOk (outcome result out.new walk.new.error) (λ v. IsChosen (AlternativeFits (Fits types.now.list.now types.now.levels) alternatives.now) v) }
+    ensures unknown { IfErr (outcome result out.new walk.new.error) (λ e. IsNoAlternative (alternatives_by (shape_of_type types.now.list.now types.now.levels) alternatives.now) name.now decoder.old e decoder.new) }
     ensures rules { IfErr (outcome result out.new walk.new.error) (λ e. e.codec ≡ decoder.old.rule) }
-    ensures told { Told (IsFaultIn types.now below (IsAlternativeAt (shape_of_type types.now below) alternatives.now decoder.old) decoder.old decoder.old) (outcome result out.new walk.new.error) walk.new.fault }
-    ensures itself { IfErr (outcome result out.new walk.new.error) (λ e. walk.new.fault ≡ None → StopsAtChoice (shape_of_type types.now below) name.now alternatives.now decoder.old e) }
-    ensures listed { IfOk (outcome result out.new walk.new.error) (λ v. Lists (λ b es. AlternativeListed (shape_of_type types.now below) below (Inside types.now below) alternatives.now b decoder.old es) walk.old.spans walk.new.spans) }
+    ensures told { Told (IsFaultIn types.now.list.now types.now.levels (IsAlternativeAt (shape_of_type types.now.list.now types.now.levels) alternatives.now decoder.old) decoder.old decoder.old) (outcome result out.new walk.new.error) walk.new.fault }
+    ensures itself { IfErr (outcome result out.new walk.new.error) (λ e. walk.new.fault ≡ None → StopsAtChoice (shape_of_type types.now.list.now types.now.levels) name.now alternatives.now decoder.old e) }
+    ensures listed { IfOk (outcome result out.new walk.new.error) (λ v. Lists (λ b es. AlternativeListed (shape_of_type types.now.list.now types.now.levels) types.now.levels (Inside types.now.list.now types.now.levels) alternatives.now b decoder.old es) walk.old.spans walk.new.spans) }
 {
     let tag = peek(decoder, &mut walk.error)?;
-    let Some(number) = alternative_for(types, below, alternatives, tag) else {
+    let Some(number) = alternative_for(types.list, types.levels, alternatives, tag) else {
         refuse_choice(&mut walk.error, decoder, name);
         return Err(Refused);
     };
     let part = NextPart {
-        levels: below,
+        levels: types.levels,
         id: alternatives[number].type_id,
         index: number,
     };
-    decode_alternative::<M>(decoder, walk, types, tag, part, out)?;
+    decode_alternative::<M>(decoder, walk, types.list, tag, part, out)?;
     choose::<M>(decoder, &mut walk.error, number, out)
 }
 
@@ -503,7 +549,13 @@ fn decode_alternative<'input, M: Made>(
 {
     match choice_at(types, part) {
         Some(_) => decode_nested::<M>(decoder, walk, types, tag, part, out),
-        None => { decode_part::<M>(decoder, walk, types, part.levels, part.id, part.index, out) }
+        None => {
+            let types = Types {
+                list: types,
+                levels: part.levels,
+            };
+            decode_part::<M>(decoder, walk, &types, part.id, part.index, out)
+        }
     }
 }
 
@@ -551,7 +603,13 @@ fn decode_innermost<'input, M: Made>(
     let entered = descend(decoder, walk, types, tag, nested);
     let part = nested.part;
     match entered {
-        Ok(()) => { decode_part::<M>(decoder, walk, types, part.levels, part.id, part.index, out) }
+        Ok(()) => {
+            let types = Types {
+                list: types,
+                levels: part.levels,
+            };
+            decode_part::<M>(decoder, walk, &types, part.id, part.index, out)
+        }
         Err(refused) => {
             let left = decoder.remaining().len();
             mark_part(decoder.alloc(), &mut walk.fault, part.id, left, part.index);
@@ -560,401 +618,159 @@ fn decode_innermost<'input, M: Made>(
     }
 }
 
-/// Reads an explicit tag and the value that it holds (X.690 8.14).
-#[cycle(decode)]
-#[inline(never)]
-fn decode_tagged<'input, M: Made>(
-    decoder: &mut Decoder<'input>,
-    walk: &mut Walk<'input>,
-    types: &[Type],
-    below: usize,
-    tag: Tag,
-    id: TypeId,
-    out: &mut Value<'input>,
-) -> Result<(), Refused>
-    requires lawful { IsReadable (shape_of_type types.now below id.0) }
-    requires clear { walk.old.fault ≡ None }
-    ensures { ReadsType types.now below M.KEEP (Tagged tag id) decoder.old walk.old.spans (outcome result out.new walk.new.error) decoder.new walk.new.fault walk.new.spans }
-{
-    // The octets that are left have a number of this type, so the sum in `count_after` has too.
-    let _ = octets_left(decoder);
-    let header = ConstructedHeader::prefix(tag);
-    let (mut inner, contents) = match decoder.open(header) {
-        Ok(opened) => opened,
-        Err(error) => {
-            walk.error = error;
-            return Err(Refused);
-        }
-    };
-    let after = go_inside(&mut walk.spans, decoder, &inner);
-    let read = decode_part::<M>(&mut inner, walk, types, below, id, 0, out);
-    count_after(decoder, &inner, &mut walk.fault, read)?;
-    match decoder.close(contents, inner.remaining()) {
-        Ok(()) => {
-            go_outside(&mut walk.spans, after);
-            Ok(())
-        }
-        Err(error) => {
-            walk.error = error;
-            Err(Refused)
-        }
-    }
-}
-
-/// Reads a SEQUENCE (X.690 8.9).
-#[cycle(decode)]
-#[inline(never)]
-fn decode_sequence<'input, M: Made>(
-    decoder: &mut Decoder<'input>,
-    walk: &mut Walk<'input>,
-    types: &[Type],
-    below: usize,
-    tag: Tag,
-    components: &Vec<Component>,
-    out: &mut Value<'input>,
-) -> Result<(), Refused>
-    requires lawful { AreReadable (components_by (shape_of_type types.now below) components.now.items) }
-    requires clear { walk.old.fault ≡ None }
-    ensures { ReadsType types.now below M.KEEP (Sequence tag components.now) decoder.old walk.old.spans (outcome result out.new walk.new.error) decoder.new walk.new.fault walk.new.spans }
-{
-    // The octets that are left have a number of this type, so the sum in `count_after` has too.
-    let _ = octets_left(decoder);
-    let header = ConstructedHeader::sequence(tag);
-    let (mut inner, contents) = match decoder.open(header) {
-        Ok(opened) => opened,
-        Err(error) => {
-            walk.error = error;
-            return Err(Refused);
-        }
-    };
-    let after = go_inside(&mut walk.spans, decoder, &inner);
-    let read = put_components::<M>(&mut inner, walk, types, below, components, out);
-    count_after(decoder, &inner, &mut walk.fault, read)?;
-    match decoder.close(contents, inner.remaining()) {
-        Ok(()) => {
-            go_outside(&mut walk.spans, after);
-            Ok(())
-        }
-        Err(error) => {
-            walk.error = error;
-            Err(Refused)
-        }
-    }
-}
-
-/// Reads the components of a SEQUENCE as its value.
+/// Reads the components of a SEQUENCE as its value (X.690 8.9).
 #[cycle(decode)]
 #[inline(always)]
 fn put_components<'input, M: Made>(
     decoder: &mut Decoder<'input>,
     walk: &mut Walk<'input>,
-    types: &[Type],
-    below: usize,
+    types: &Types<'_>,
     components: &Vec<Component>,
     out: &mut Value<'input>,
 ) -> Result<(), Refused>
-    requires lawful { AreReadable (components_by (shape_of_type types.now below) components.now.items) }
+    requires lawful { AreReadable (components_by (shape_of_type types.now.list.now types.now.levels) components.now.items) }
     requires clear { walk.old.fault ≡ None }
-    ensures { ReadsContents types.now below M.KEEP (Sequence eoc components.now) (DecodesContents (shape_of_type types.now below) (Sequence eoc components.now)) decoder.old walk.old.spans (outcome result out.new walk.new.error) decoder.new walk.new.fault walk.new.spans }
+    ensures { ReadsContents types.now.list.now types.now.levels M.KEEP (Sequence eoc components.now) (DecodesContents (shape_of_type types.now.list.now types.now.levels) (Sequence eoc components.now)) decoder.old walk.old.spans (outcome result out.new walk.new.error) decoder.new walk.new.fault walk.new.spans }
 {
     let mut values = list_for::<M>(decoder, &mut walk.error, components.len())?;
-    decode_components::<M>(decoder, walk, types, below, components, out, &mut values)?;
+    decode_components::<M>(decoder, walk, types, components, out, &mut values)?;
     put_items::<M>(values, out);
     Ok(())
 }
 
-/// Reads a SET (X.690 8.11).
-#[cycle(decode)]
-#[inline(never)]
-fn decode_set<'input, M: Made>(
-    decoder: &mut Decoder<'input>,
-    walk: &mut Walk<'input>,
-    types: &[Type],
-    below: usize,
-    tag: Tag,
-    name: &String,
-    components: &Vec<Component>,
-    out: &mut Value<'input>,
-) -> Result<(), Refused>
-    requires lawful { AreLawfulMembers (components_by (shape_of_type types.now below) (named_in (shape_of_type types.now below) components.now.items)) }
-    requires clear { walk.old.fault ≡ None }
-    ensures { ReadsType types.now below M.KEEP (Set name.now tag components.now) decoder.old walk.old.spans (outcome result out.new walk.new.error) decoder.new walk.new.fault walk.new.spans }
-{
-    // The octets that are left have a number of this type, so the sum in `count_after` has too.
-    let _ = octets_left(decoder);
-    let header = ConstructedHeader::sequence(tag);
-    let (mut inner, contents) = match decoder.open(header) {
-        Ok(opened) => opened,
-        Err(error) => {
-            walk.error = error;
-            return Err(Refused);
-        }
-    };
-    let after = go_inside(&mut walk.spans, decoder, &inner);
-    let read = put_set_components::<M>(&mut inner, walk, types, below, name, components, out);
-    count_after(decoder, &inner, &mut walk.fault, read)?;
-    match decoder.close(contents, inner.remaining()) {
-        Ok(()) => {
-            go_outside(&mut walk.spans, after);
-            Ok(())
-        }
-        Err(error) => {
-            walk.error = error;
-            Err(Refused)
-        }
-    }
-}
-
-/// Reads the components of a SET as its value.
+/// Reads the components of a SET as its value (X.690 8.11).
 #[cycle(decode)]
 #[inline(never)]
 fn put_set_components<'input, M: Made>(
     decoder: &mut Decoder<'input>,
     walk: &mut Walk<'input>,
-    types: &[Type],
-    below: usize,
+    types: &Types<'_>,
     name: &String,
     components: &Vec<Component>,
     out: &mut Value<'input>,
 ) -> Result<(), Refused>
-    requires lawful { AreLawfulMembers (components_by (shape_of_type types.now below) (named_in (shape_of_type types.now below) components.now.items)) }
+    requires lawful { AreLawfulMembers (components_by (shape_of_type types.now.list.now types.now.levels) (named_in (shape_of_type types.now.list.now types.now.levels) components.now.items)) }
     requires clear { walk.old.fault ≡ None }
-    ensures { ReadsContents types.now below M.KEEP (Set name.now eoc components.now) (DecodesContents (shape_of_type types.now below) (Set name.now eoc components.now)) decoder.old walk.old.spans (outcome result out.new walk.new.error) decoder.new walk.new.fault walk.new.spans }
+    ensures { ReadsContents types.now.list.now types.now.levels M.KEEP (Set name.now eoc components.now) (DecodesContents (shape_of_type types.now.list.now types.now.levels) (Set name.now eoc components.now)) decoder.old walk.old.spans (outcome result out.new walk.new.error) decoder.new walk.new.fault walk.new.spans }
 {
     let components: &[Component] = components;
-    let (named, extensible) = named_components(types, below, components);
-    let other_id = last_type(components);
+    let (named, extensible) = named_components(types.list, types.levels, components);
+    let members = Members {
+        name: name.as_str(),
+        components: named,
+        extensible,
+        other_id: last_type(components),
+    };
     let found = kept(no_components(decoder, named), &mut walk.error)?;
-    let name = name.as_str();
-    let values = decode_set_components::<M>(
-        decoder, walk, types, below, name, named, extensible, other_id, found,
-    )?;
+    let values = decode_set_components::<M>(decoder, walk, types, &members, found)?;
     put_items::<M>(values, out);
     Ok(())
 }
 
-/// Reads a SEQUENCE OF (X.690 8.10).
-///
-/// # Errors
-/// `SizeConstraintNotSatisfied` if the number of elements isn't within the bound, which consumes
-/// the value.
-#[cycle(decode)]
-#[inline(never)]
-fn decode_sequence_of<'input, M: Made>(
-    decoder: &mut Decoder<'input>,
-    walk: &mut Walk<'input>,
-    types: &[Type],
-    below: usize,
-    tag: Tag,
-    element: TypeId,
-    constraints: &Constraints,
-    out: &mut Value<'input>,
-) -> Result<(), Refused>
-    requires lawful { IsReadable (shape_of_type types.now below element.0) }
-    requires clear { walk.old.fault ≡ None }
-    ensures { ReadsType types.now below M.KEEP (SequenceOf tag element constraints.now) decoder.old walk.old.spans (outcome result out.new walk.new.error) decoder.new walk.new.fault walk.new.spans }
-{
-    let mut count = 0;
-    // The octets that are left have a number of this type, so the sum in `count_after` has too.
-    let _ = octets_left(decoder);
-    let header = ConstructedHeader::list(tag);
-    let (mut inner, contents) = match decoder.open(header) {
-        Ok(opened) => opened,
-        Err(error) => {
-            walk.error = error;
-            return Err(Refused);
-        }
-    };
-    let after = go_inside(&mut walk.spans, decoder, &inner);
-    let read = put_elements::<M>(&mut inner, walk, types, below, element, &mut count, out);
-    count_after(decoder, &inner, &mut walk.fault, read)?;
-    match decoder.close(contents, inner.remaining()) {
-        Ok(()) => go_outside(&mut walk.spans, after),
-        Err(error) => {
-            walk.error = error;
-            return Err(Refused);
-        }
-    }
-    check_size(decoder, &mut walk.error, constraints, count)
-}
-
-/// Reads the elements of a SEQUENCE OF as its value, and counts them.
+/// Reads the elements of a SEQUENCE OF as its value (X.690 8.10), and returns how many they are.
 #[cycle(decode)]
 #[inline(always)]
 fn put_elements<'input, M: Made>(
     decoder: &mut Decoder<'input>,
     walk: &mut Walk<'input>,
-    types: &[Type],
-    below: usize,
+    types: &Types<'_>,
     element: TypeId,
-    count: &mut usize,
     out: &mut Value<'input>,
-) -> Result<(), Refused>
-    requires lawful { IsReadable (shape_of_type types.now below element.0) }
-    requires counts { count.old ≡ 0 }
+) -> Result<usize, Refused>
+    requires lawful { IsReadable (shape_of_type types.now.list.now types.now.levels element.0) }
+    requires short { length decoder.old.rest < 2 ^ 64 }
     requires clear { walk.old.fault ≡ None }
-    ensures { ReadsContents types.now below M.KEEP (SequenceOf eoc element unconstrained) (DecodesCounted (DecodesContents (shape_of_type types.now below) (SequenceOf eoc element unconstrained)) count.new) decoder.old walk.old.spans (outcome result out.new walk.new.error) decoder.new walk.new.fault walk.new.spans }
+    ensures { ReadsContents types.now.list.now types.now.levels M.KEEP (SequenceOf eoc element unconstrained) (DecodesCounted (DecodesContents (shape_of_type types.now.list.now types.now.levels) (SequenceOf eoc element unconstrained)) (count_of result)) decoder.old walk.old.spans (outcome result out.new walk.new.error) decoder.new walk.new.fault walk.new.spans }
 {
     let mut values = Vec::new(decoder.alloc());
-    decode_elements::<M>(
-        decoder,
-        walk,
-        types,
-        below,
-        element,
-        count,
-        out,
-        &mut values,
-    )?;
+    let count = decode_elements::<M>(decoder, walk, types, element, out, &mut values)?;
     put_items::<M>(values, out);
-    Ok(())
+    Ok(count)
 }
 
-/// Reads a SET OF (X.690 8.12).
-///
-/// # Errors
-/// `SizeConstraintNotSatisfied` if the number of elements isn't within the bound, which consumes
-/// the value.
-#[cycle(decode)]
-#[inline(never)]
-fn decode_set_of<'input, M: Made>(
-    decoder: &mut Decoder<'input>,
-    walk: &mut Walk<'input>,
-    types: &[Type],
-    below: usize,
-    tag: Tag,
-    element: TypeId,
-    constraints: &Constraints,
-    out: &mut Value<'input>,
-) -> Result<(), Refused>
-    requires lawful { IsReadable (shape_of_type types.now below element.0) }
-    requires clear { walk.old.fault ≡ None }
-    ensures { ReadsType types.now below M.KEEP (SetOf tag element constraints.now) decoder.old walk.old.spans (outcome result out.new walk.new.error) decoder.new walk.new.fault walk.new.spans }
-{
-    let mut count = 0;
-    // The octets that are left have a number of this type, so the sum in `count_after` has too.
-    let _ = octets_left(decoder);
-    let header = ConstructedHeader::list(tag);
-    let (mut inner, contents) = match decoder.open(header) {
-        Ok(opened) => opened,
-        Err(error) => {
-            walk.error = error;
-            return Err(Refused);
-        }
-    };
-    let after = go_inside(&mut walk.spans, decoder, &inner);
-    let read = put_elements_in_order::<M>(&mut inner, walk, types, below, element, &mut count, out);
-    count_after(decoder, &inner, &mut walk.fault, read)?;
-    match decoder.close(contents, inner.remaining()) {
-        Ok(()) => go_outside(&mut walk.spans, after),
-        Err(error) => {
-            walk.error = error;
-            return Err(Refused);
-        }
-    }
-    check_size(decoder, &mut walk.error, constraints, count)
-}
-
-/// Reads the elements of a SET OF as its value, and counts them.
+/// Reads the elements of a SET OF as its value (X.690 8.12), and returns how many they are.
 #[cycle(decode)]
 #[inline(always)]
 fn put_elements_in_order<'input, M: Made>(
     decoder: &mut Decoder<'input>,
     walk: &mut Walk<'input>,
-    types: &[Type],
-    below: usize,
+    types: &Types<'_>,
     element: TypeId,
-    count: &mut usize,
     out: &mut Value<'input>,
-) -> Result<(), Refused>
-    requires lawful { IsReadable (shape_of_type types.now below element.0) }
-    requires counts { count.old ≡ 0 }
+) -> Result<usize, Refused>
+    requires lawful { IsReadable (shape_of_type types.now.list.now types.now.levels element.0) }
+    requires short { length decoder.old.rest < 2 ^ 64 }
     requires clear { walk.old.fault ≡ None }
-    ensures { ReadsContents types.now below M.KEEP (SetOf eoc element unconstrained) (DecodesCounted (DecodesContents (shape_of_type types.now below) (SetOf eoc element unconstrained)) count.new) decoder.old walk.old.spans (outcome result out.new walk.new.error) decoder.new walk.new.fault walk.new.spans }
+    ensures { ReadsContents types.now.list.now types.now.levels M.KEEP (SetOf eoc element unconstrained) (DecodesCounted (DecodesContents (shape_of_type types.now.list.now types.now.levels) (SetOf eoc element unconstrained)) (count_of result)) decoder.old walk.old.spans (outcome result out.new walk.new.error) decoder.new walk.new.fault walk.new.spans }
 {
     let mut values = Vec::new(decoder.alloc());
-    decode_elements_in_order::<M>(
-        decoder,
-        walk,
-        types,
-        below,
-        element,
-        count,
-        out,
-        &mut values,
-    )?;
+    let count = decode_elements_in_order::<M>(decoder, walk, types, element, out, &mut values)?;
     put_in_any_order::<M>(values, out);
-    Ok(())
+    Ok(count)
 }
 
-/// Reads elements up to the end of the contents (X.690 8.10).
+/// Reads elements up to the end of the contents (X.690 8.10), and returns how many they are.
 #[cycle(decode)]
 #[inline(always)]
 fn decode_elements<'input, M: Made>(
     decoder: &mut Decoder<'input>,
     walk: &mut Walk<'input>,
-    types: &[Type],
-    below: usize,
+    types: &Types<'_>,
     element: TypeId,
-    count: &mut usize,
     value: &mut Value<'input>,
     values: &mut Vec<Value<'input>>,
-) -> Result<(), Refused>
-    requires lawful { IsReadable (shape_of_type types.now below element.0) }
-    requires counts { count.old ≡ 0 }
+) -> Result<usize, Refused>
+    requires lawful { IsReadable (shape_of_type types.now.list.now types.now.levels element.0) }
     requires empty { values.old.items ≡ [] }
+    requires short { length decoder.old.rest < 2 ^ 64 }
     requires clear { walk.old.fault ≡ None }
-    ensures reads { Counting M.KEEP trees_of IsLength (DecodesElements (DecodesTree (shape_of_type types.now below element.0)) these) decoder.old (outcome result values.new walk.new.error) decoder.new count.new }
-    ensures fits { M.KEEP ≡ true → IfOk (outcome result values.new walk.new.error) (λ v. EachFits (Fits types.now below element.0) v.items) }
+    ensures reads { Counting M.KEEP trees_of IsLength (DecodesElements (DecodesTree (shape_of_type types.now.list.now types.now.levels element.0)) these) decoder.old (outcome result values.new walk.new.error) decoder.new (count_of result) }
+    ensures fits { M.KEEP ≡ true → IfOk (outcome result values.new walk.new.error) (λ v. EachFits (Fits types.now.list.now types.now.levels element.0) v.items) }
     ensures rules { IfErr (outcome result values.new walk.new.error) (λ e. e.codec ≡ decoder.old.rule) }
-    ensures told { Told (IsFaultIn types.now below (IsElementAt (shape_of_type types.now below) element.0 decoder.old) decoder.old decoder.old) (outcome result values.new walk.new.error) walk.new.fault }
-    ensures itself { IfErr (outcome result values.new walk.new.error) (λ e. walk.new.fault ≡ None → StopsInElements (shape_of_type types.now below) element.0 decoder.old e) }
-    ensures listed { IfOk (outcome result values.new walk.new.error) (λ v. Lists (λ b es. ElementsListed (shape_of_type types.now below) below (Inside types.now below) element.0 b decoder.old es) walk.old.spans walk.new.spans) }
+    ensures told { Told (IsFaultIn types.now.list.now types.now.levels (IsElementAt (shape_of_type types.now.list.now types.now.levels) element.0 decoder.old) decoder.old decoder.old) (outcome result values.new walk.new.error) walk.new.fault }
+    ensures itself { IfErr (outcome result values.new walk.new.error) (λ e. walk.new.fault ≡ None → StopsInElements (shape_of_type types.now.list.now types.now.levels) element.0 decoder.old e) }
+    ensures listed { IfOk (outcome result values.new walk.new.error) (λ v. Lists (λ b es. ElementsListed (shape_of_type types.now.list.now types.now.levels) types.now.levels (Inside types.now.list.now types.now.levels) element.0 b decoder.old es) walk.old.spans walk.new.spans) }
 {
-    // Each element takes some of these octets, so their number has this type.
-    let _ = octets_left(decoder);
+    let mut count = 0;
     while !decoder.has_ended() {
         let left = decoder.remaining().len();
-        decode_part::<M>(decoder, walk, types, below, element, *count, value)?;
+        decode_part::<M>(decoder, walk, types, element, count, value)?;
         keep::<M>(decoder, &mut walk.error, left, value, values)?;
-        *count += 1;
+        count += 1;
     }
-    Ok(())
+    Ok(count)
 }
 
-/// Reads elements up to the end of the contents. Under DER their octets have to be in ascending
-/// order (X.690 11.6).
+/// Reads elements up to the end of the contents, and returns how many they are. Under DER their
+/// octets have to be in ascending order (X.690 11.6).
 #[cycle(decode)]
 #[inline(always)]
 fn decode_elements_in_order<'input, M: Made>(
     decoder: &mut Decoder<'input>,
     walk: &mut Walk<'input>,
-    types: &[Type],
-    below: usize,
+    types: &Types<'_>,
     element: TypeId,
-    count: &mut usize,
     value: &mut Value<'input>,
     values: &mut Vec<Value<'input>>,
-) -> Result<(), Refused>
-    requires lawful { IsReadable (shape_of_type types.now below element.0) }
-    requires counts { count.old ≡ 0 }
+) -> Result<usize, Refused>
+    requires lawful { IsReadable (shape_of_type types.now.list.now types.now.levels element.0) }
     requires empty { values.old.items ≡ [] }
+    requires short { length decoder.old.rest < 2 ^ 64 }
     requires clear { walk.old.fault ≡ None }
-    ensures reads { Counting M.KEEP trees_of IsLength (DecodesElementsInOrder (DecodesTree (shape_of_type types.now below element.0)) these) decoder.old (outcome result values.new walk.new.error) decoder.new count.new }
-    ensures fits { M.KEEP ≡ true → IfOk (outcome result values.new walk.new.error) (λ v. EachFits (Fits types.now below element.0) v.items) }
+    ensures reads { Counting M.KEEP trees_of IsLength (DecodesElementsInOrder (DecodesTree (shape_of_type types.now.list.now types.now.levels element.0)) these) decoder.old (outcome result values.new walk.new.error) decoder.new (count_of result) }
+    ensures fits { M.KEEP ≡ true → IfOk (outcome result values.new walk.new.error) (λ v. EachFits (Fits types.now.list.now types.now.levels element.0) v.items) }
     ensures rules { IfErr (outcome result values.new walk.new.error) (λ e. e.codec ≡ decoder.old.rule) }
-    ensures told { Told (IsFaultIn types.now below (IsElementAt (shape_of_type types.now below) element.0 decoder.old) decoder.old decoder.old) (outcome result values.new walk.new.error) walk.new.fault }
-    ensures itself { IfErr (outcome result values.new walk.new.error) (λ e. walk.new.fault ≡ None → StopsInOrder (shape_of_type types.now below) element.0 decoder.old e) }
-    ensures listed { IfOk (outcome result values.new walk.new.error) (λ v. Lists (λ b es. ElementsListed (shape_of_type types.now below) below (Inside types.now below) element.0 b decoder.old es) walk.old.spans walk.new.spans) }
+    ensures told { Told (IsFaultIn types.now.list.now types.now.levels (IsElementAt (shape_of_type types.now.list.now types.now.levels) element.0 decoder.old) decoder.old decoder.old) (outcome result values.new walk.new.error) walk.new.fault }
+    ensures itself { IfErr (outcome result values.new walk.new.error) (λ e. walk.new.fault ≡ None → StopsInOrder (shape_of_type types.now.list.now types.now.levels) element.0 decoder.old e) }
+    ensures listed { IfOk (outcome result values.new walk.new.error) (λ v. Lists (λ b es. ElementsListed (shape_of_type types.now.list.now types.now.levels) types.now.levels (Inside types.now.list.now types.now.levels) element.0 b decoder.old es) walk.old.spans walk.new.spans) }
 {
+    let mut count = 0;
     let mut last: &[u8] = &[];
-    // Each element takes some of these octets, so their number has this type.
-    let _ = octets_left(decoder);
     while !decoder.has_ended() {
         let start = decoder.remaining();
-        decode_part::<M>(decoder, walk, types, below, element, *count, value)?;
+        decode_part::<M>(decoder, walk, types, element, count, value)?;
         keep::<M>(decoder, &mut walk.error, start.len(), value, values)?;
-        *count += 1;
+        count += 1;
         let octets = octets_before(start, decoder.remaining());
         if decoder.is_strict() && is_less(octets, last) {
             refuse_order(&mut walk.error, decoder);
@@ -962,7 +778,7 @@ fn decode_elements_in_order<'input, M: Made>(
         }
         last = octets;
     }
-    Ok(())
+    Ok(count)
 }
 
 /// Reads the components of a SEQUENCE, up to the end of the contents (X.690 8.9).
@@ -971,22 +787,21 @@ fn decode_elements_in_order<'input, M: Made>(
 fn decode_components<'input, M: Made>(
     decoder: &mut Decoder<'input>,
     walk: &mut Walk<'input>,
-    types: &[Type],
-    below: usize,
+    types: &Types<'_>,
     components: &[Component],
     value: &mut Value<'input>,
     values: &mut Vec<Value<'input>>,
 ) -> Result<(), Refused>
-    requires lawful { AreReadable (components_by (shape_of_type types.now below) components.now) }
+    requires lawful { AreReadable (components_by (shape_of_type types.now.list.now types.now.levels) components.now) }
     requires empty { values.old.items ≡ [] }
     requires clear { walk.old.fault ≡ None }
-    ensures reads { Making M.KEEP trees_of (DecodesBy (ReadsSequence (components_by (shape_of_type types.now below) components.now)) items) decoder.old (outcome result values.new walk.new.error) decoder.new }
-    ensures fails { IfErr (outcome result values.new walk.new.error) (λ e. FailsAtPart (components_by (shape_of_type types.now below) components.now) decoder.old e decoder.new ⊎ IsOutOfMemory e.kind) }
-    ensures fits { M.KEEP ≡ true → IfOk (outcome result values.new walk.new.error) (λ v. ComponentsFit (Fits types.now below) components.now v.items) }
+    ensures reads { Making M.KEEP trees_of (DecodesBy (ReadsSequence (components_by (shape_of_type types.now.list.now types.now.levels) components.now)) items) decoder.old (outcome result values.new walk.new.error) decoder.new }
+    ensures fails { IfErr (outcome result values.new walk.new.error) (λ e. FailsAtPart (components_by (shape_of_type types.now.list.now types.now.levels) components.now) decoder.old e decoder.new ⊎ IsOutOfMemory e.kind) }
+    ensures fits { M.KEEP ≡ true → IfOk (outcome result values.new walk.new.error) (λ v. ComponentsFit (Fits types.now.list.now types.now.levels) components.now v.items) }
     ensures rules { IfErr (outcome result values.new walk.new.error) (λ e. e.codec ≡ decoder.old.rule) }
-    ensures told { Told (IsFaultIn types.now below (IsComponentAt (shape_of_type types.now below) components.now decoder.old) decoder.old decoder.old) (outcome result values.new walk.new.error) walk.new.fault }
-    ensures itself { IfErr (outcome result values.new walk.new.error) (λ e. walk.new.fault ≡ None → StopsInSequence (shape_of_type types.now below) components.now decoder.old e) }
-    ensures listed { IfOk (outcome result values.new walk.new.error) (λ v. Lists (λ b es. ComponentsListed (shape_of_type types.now below) below (Inside types.now below) components.now b decoder.old es) walk.old.spans walk.new.spans) }
+    ensures told { Told (IsFaultIn types.now.list.now types.now.levels (IsComponentAt (shape_of_type types.now.list.now types.now.levels) components.now decoder.old) decoder.old decoder.old) (outcome result values.new walk.new.error) walk.new.fault }
+    ensures itself { IfErr (outcome result values.new walk.new.error) (λ e. walk.new.fault ≡ None → StopsInSequence (shape_of_type types.now.list.now types.now.levels) components.now decoder.old e) }
+    ensures listed { IfOk (outcome result values.new walk.new.error) (λ v. Lists (λ b es. ComponentsListed (shape_of_type types.now.list.now types.now.levels) types.now.levels (Inside types.now.list.now types.now.levels) components.now b decoder.old es) walk.old.spans walk.new.spans) }
 {
     if leaves_all_out(decoder, components) {
         return put_all_absent::<M>(decoder, &mut walk.error, components, values);
@@ -994,7 +809,7 @@ fn decode_components<'input, M: Made>(
     let mut rest = components;
     while let [component, after @ ..] = rest {
         let index = components.len() - rest.len();
-        decode_component::<M>(decoder, walk, types, below, component, index, value)?;
+        decode_component::<M>(decoder, walk, types, component, index, value)?;
         take::<M>(decoder, &mut walk.error, value, values)?;
         rest = after;
     }
@@ -1006,21 +821,20 @@ fn decode_components<'input, M: Made>(
 #[inline(always)]
 pub(crate) fn is_next(
     decoder: &Decoder<'_>,
-    types: &[Type],
-    levels: usize,
+    types: &Types<'_>,
     id: TypeId,
 ) -> Result<bool, DecodeError>
-    requires { IsReadable (shape_of_type types.now levels id.0) }
-    ensures { NextIs (sought_by (key_of (shape_of_type types.now levels id.0)) (shape_of_type types.now levels id.0)) decoder.now result }
+    requires { IsReadable (shape_of_type types.now.list.now types.now.levels id.0) }
+    ensures { NextIs (sought_by (key_of (shape_of_type types.now.list.now types.now.levels id.0)) (shape_of_type types.now.list.now types.now.levels id.0)) decoder.now result }
 {
-    if !is_choice_at(types, levels, id) {
-        return decoder.next_tag_is(tag_at(types, id));
+    if !is_choice_at(types.list, types.levels, id) {
+        return decoder.next_tag_is(tag_at(types.list, id));
     }
     if decoder.has_ended() {
         return Ok(false);
     }
     let tag = decoder.peek_tag()?;
-    Ok(begins(types, levels, id, tag))
+    Ok(begins(types.list, types.levels, id, tag))
 }
 
 /// Returns whether the next value is one of the type with this number, as [`is_next`] does.
@@ -1028,14 +842,13 @@ pub(crate) fn is_next(
 fn follows(
     decoder: &Decoder<'_>,
     error: &mut DecodeError,
-    types: &[Type],
-    levels: usize,
+    types: &Types<'_>,
     id: TypeId,
 ) -> Result<bool, Refused>
-    requires { IsReadable (shape_of_type types.now levels id.0) }
-    ensures { NextIs (sought_by (key_of (shape_of_type types.now levels id.0)) (shape_of_type types.now levels id.0)) decoder.now (reported result error.new) }
+    requires { IsReadable (shape_of_type types.now.list.now types.now.levels id.0) }
+    ensures { NextIs (sought_by (key_of (shape_of_type types.now.list.now types.now.levels id.0)) (shape_of_type types.now.list.now types.now.levels id.0)) decoder.now (reported result error.new) }
 {
-    match is_next(decoder, types, levels, id) {
+    match is_next(decoder, types, id) {
         Ok(found) => Ok(found),
         Err(fault) => {
             *error = fault;
@@ -1050,27 +863,26 @@ fn follows(
 pub fn decode_component<'input, M: Made>(
     decoder: &mut Decoder<'input>,
     walk: &mut Walk<'input>,
-    types: &[Type],
-    below: usize,
+    types: &Types<'_>,
     component: &Component,
     index: usize,
     out: &mut Value<'input>,
 ) -> Result<(), Refused>
-    requires lawful { IsReadable (shape_of_type types.now below component.now.type_id.0) }
+    requires lawful { IsReadable (shape_of_type types.now.list.now types.now.levels component.now.type_id.0) }
     requires clear { walk.old.fault ≡ None }
-    ensures reads { Making M.KEEP tree_of (DecodesComponent (presence_in (shape_of_type types.now below) component.now) (shape_of_type types.now below component.now.type_id.0)) decoder.old (outcome result out.new walk.new.error) decoder.new }
-    ensures fails { IfErr (outcome result out.new walk.new.error) (λ e. FailsAtOnePart (presence_in (shape_of_type types.now below) component.now) (shape_of_type types.now below component.now.type_id.0) decoder.old e decoder.new) }
-    ensures fits { M.KEEP ≡ true → IfOk (outcome result out.new walk.new.error) (λ v. ComponentFits (Fits types.now below) component.now v) }
+    ensures reads { Making M.KEEP tree_of (DecodesComponent (presence_in (shape_of_type types.now.list.now types.now.levels) component.now) (shape_of_type types.now.list.now types.now.levels component.now.type_id.0)) decoder.old (outcome result out.new walk.new.error) decoder.new }
+    ensures fails { IfErr (outcome result out.new walk.new.error) (λ e. FailsAtOnePart (presence_in (shape_of_type types.now.list.now types.now.levels) component.now) (shape_of_type types.now.list.now types.now.levels component.now.type_id.0) decoder.old e decoder.new) }
+    ensures fits { M.KEEP ≡ true → IfOk (outcome result out.new walk.new.error) (λ v. ComponentFits (Fits types.now.list.now types.now.levels) component.now v) }
     ensures rules { IfErr (outcome result out.new walk.new.error) (λ e. e.codec ≡ decoder.old.rule) }
-    ensures told { Told (IsFaultIn types.now below (IsOnly index component.now.type_id.0 decoder.old) decoder.old decoder.old) (outcome result out.new walk.new.error) walk.new.fault }
-    ensures itself { IfErr (outcome result out.new walk.new.error) (λ e. walk.new.fault ≡ None → StopsAtComponent (shape_of_type types.now below) component.now decoder.old e) }
-    ensures listed { IfOk (outcome result out.new walk.new.error) (λ v. Lists (λ b es. ComponentListed (shape_of_type types.now below) below (Inside types.now below) component.now index b decoder.old decoder.new es) walk.old.spans walk.new.spans) }
+    ensures told { Told (IsFaultIn types.now.list.now types.now.levels (IsOnly index component.now.type_id.0 decoder.old) decoder.old decoder.old) (outcome result out.new walk.new.error) walk.new.fault }
+    ensures itself { IfErr (outcome result out.new walk.new.error) (λ e. walk.new.fault ≡ None → StopsAtComponent (shape_of_type types.now.list.now types.now.levels) component.now decoder.old e) }
+    ensures listed { IfOk (outcome result out.new walk.new.error) (λ v. Lists (λ b es. ComponentListed (shape_of_type types.now.list.now types.now.levels) types.now.levels (Inside types.now.list.now types.now.levels) component.now index b decoder.old decoder.new es) walk.old.spans walk.new.spans) }
 {
     if is_always_there(component) {
-        return decode_present::<M>(decoder, walk, types, below, component, index, out);
+        return decode_present::<M>(decoder, walk, types, component, index, out);
     }
-    match follows(decoder, &mut walk.error, types, below, component.type_id) {
-        Ok(true) => decode_present::<M>(decoder, walk, types, below, component, index, out),
+    match follows(decoder, &mut walk.error, types, component.type_id) {
+        Ok(true) => decode_present::<M>(decoder, walk, types, component, index, out),
         Ok(false) => put_missing::<M>(decoder, &mut walk.error, component, out),
         Err(refused) => Err(refused),
     }
@@ -1082,56 +894,27 @@ pub fn decode_component<'input, M: Made>(
 pub fn decode_present<'input, M: Made>(
     decoder: &mut Decoder<'input>,
     walk: &mut Walk<'input>,
-    types: &[Type],
-    below: usize,
+    types: &Types<'_>,
     component: &Component,
     index: usize,
     out: &mut Value<'input>,
 ) -> Result<(), Refused>
-    requires lawful { IsReadable (shape_of_type types.now below component.now.type_id.0) }
+    requires lawful { IsReadable (shape_of_type types.now.list.now types.now.levels component.now.type_id.0) }
     requires clear { walk.old.fault ≡ None }
-    ensures reads { Making M.KEEP tree_of (DecodesPresent (presence_in (shape_of_type types.now below) component.now) (shape_of_type types.now below component.now.type_id.0)) decoder.old (outcome result out.new walk.new.error) decoder.new }
-    ensures fits { M.KEEP ≡ true → IfOk (outcome result out.new walk.new.error) (λ v. Fits types.now below component.now.type_id.0 v) }
+    ensures reads { Making M.KEEP tree_of (DecodesPresent (presence_in (shape_of_type types.now.list.now types.now.levels) component.now) (shape_of_type types.now.list.now types.now.levels component.now.type_id.0)) decoder.old (outcome result out.new walk.new.error) decoder.new }
+    ensures fits { M.KEEP ≡ true → IfOk (outcome result out.new walk.new.error) (λ v. Fits types.now.list.now types.now.levels component.now.type_id.0 v) }
     ensures rules { IfErr (outcome result out.new walk.new.error) (λ e. e.codec ≡ decoder.old.rule) }
-    ensures told { Told (IsFaultIn types.now below (IsOnly index component.now.type_id.0 decoder.old) decoder.old decoder.old) (outcome result out.new walk.new.error) walk.new.fault }
-    ensures itself { IfErr (outcome result out.new walk.new.error) (λ e. walk.new.fault ≡ None → IsDefaultWritten (shape_of_type types.now below) component.now decoder.old e) }
-    ensures listed { IfOk (outcome result out.new walk.new.error) (λ v. Lists (λ b es. PartListed (shape_of_type types.now below) below (Inside types.now below) component.now.type_id.0 index b decoder.old decoder.new es) walk.old.spans walk.new.spans) }
+    ensures told { Told (IsFaultIn types.now.list.now types.now.levels (IsOnly index component.now.type_id.0 decoder.old) decoder.old decoder.old) (outcome result out.new walk.new.error) walk.new.fault }
+    ensures itself { IfErr (outcome result out.new walk.new.error) (λ e. walk.new.fault ≡ None → IsDefaultWritten (shape_of_type types.now.list.now types.now.levels) component.now decoder.old e) }
+    ensures listed { IfOk (outcome result out.new walk.new.error) (λ v. Lists (λ b es. PartListed (shape_of_type types.now.list.now types.now.levels) types.now.levels (Inside types.now.list.now types.now.levels) component.now.type_id.0 index b decoder.old decoder.new es) walk.old.spans walk.new.spans) }
 {
     let Presence::Default(default) = &component.presence else {
-        return decode_part::<M>(decoder, walk, types, below, component.type_id, index, out);
+        return decode_part::<M>(decoder, walk, types, component.type_id, index, out);
     };
     if !decoder.is_strict() {
-        return decode_part::<M>(decoder, walk, types, below, component.type_id, index, out);
+        return decode_part::<M>(decoder, walk, types, component.type_id, index, out);
     }
-    decode_stated::<M>(decoder, walk, types, below, component, default, index, out)
-}
-
-/// Reads a component that is present and has this default, which it must not be under DER
-/// (X.690 11.5).
-#[cycle(decode)]
-#[inline(never)]
-fn decode_stated<'input, M: Made>(
-    decoder: &mut Decoder<'input>,
-    walk: &mut Walk<'input>,
-    types: &[Type],
-    below: usize,
-    component: &Component,
-    default: &Value<'_>,
-    index: usize,
-    out: &mut Value<'input>,
-) -> Result<(), Refused>
-    requires stated { component.now.presence ≡ Default default.now }
-    requires strict { IsStrict decoder.old.rule }
-    requires lawful { IsReadable (shape_of_type types.now below component.now.type_id.0) }
-    requires clear { walk.old.fault ≡ None }
-    ensures reads { Making M.KEEP tree_of (DecodesPresent (presence_in (shape_of_type types.now below) component.now) (shape_of_type types.now below component.now.type_id.0)) decoder.old (outcome result out.new walk.new.error) decoder.new }
-    ensures fits { M.KEEP ≡ true → IfOk (outcome result out.new walk.new.error) (λ v. Fits types.now below component.now.type_id.0 v) }
-    ensures rules { IfErr (outcome result out.new walk.new.error) (λ e. e.codec ≡ decoder.old.rule) }
-    ensures told { Told (IsFaultIn types.now below (IsOnly index component.now.type_id.0 decoder.old) decoder.old decoder.old) (outcome result out.new walk.new.error) walk.new.fault }
-    ensures itself { IfErr (outcome result out.new walk.new.error) (λ e. walk.new.fault ≡ None → IsDefaultWritten (shape_of_type types.now below) component.now decoder.old e) }
-    ensures listed { IfOk (outcome result out.new walk.new.error) (λ v. Lists (λ b es. PartListed (shape_of_type types.now below) below (Inside types.now below) component.now.type_id.0 index b decoder.old decoder.new es) walk.old.spans walk.new.spans) }
-{
-    decode_compared::<M>(decoder, walk, types, below, component.type_id, index, out)?;
+    decode_compared::<M>(decoder, walk, types, component.type_id, index, out)?;
     if out.means_same(default) {
         refuse_default(&mut walk.error, decoder);
         return Err(Refused);
@@ -1152,24 +935,20 @@ fn decode_stated<'input, M: Made>(
 fn decode_set_components<'input, M: Made>(
     decoder: &mut Decoder<'input>,
     walk: &mut Walk<'input>,
-    types: &[Type],
-    below: usize,
-    name: &str,
-    components: &[Component],
-    extensible: bool,
-    other_id: TypeId,
+    types: &Types<'_>,
+    members: &Members<'_>,
     mut found: Vec<Option<Value<'input>>>,
 ) -> Result<Vec<Value<'input>>, Refused>
-    requires lawful { AreLawfulMembers (components_by (shape_of_type types.now below) components.now) }
-    requires none { found.items ≡ nones components.now }
+    requires lawful { AreLawfulMembers (components_by (shape_of_type types.now.list.now types.now.levels) members.now.components.now) }
+    requires none { found.items ≡ nones members.now.components.now }
     requires clear { walk.old.fault ≡ None }
-    requires other { extensible ≡ true → shape_of_type types.now below other_id.0 ≡ unknown_values }
-    ensures exact { Making M.KEEP trees_of (MayRunOut (DecodesSetPartContents extensible (components_by (shape_of_type types.now below) components.now) items (names_of components.now))) decoder.old (reported result walk.new.error) decoder.new }
-    ensures fits { M.KEEP ≡ true → IfOk (reported result walk.new.error) (λ v. MembersFit (Fits types.now below) extensible components.now v.items) }
+    requires other { members.now.extensible ≡ true → shape_of_type types.now.list.now types.now.levels members.now.other_id.0 ≡ unknown_values }
+    ensures exact { Making M.KEEP trees_of (MayRunOut (DecodesSetPartContents members.now.extensible (components_by (shape_of_type types.now.list.now types.now.levels) members.now.components.now) items (names_of members.now.components.now))) decoder.old (reported result walk.new.error) decoder.new }
+    ensures fits { M.KEEP ≡ true → IfOk (reported result walk.new.error) (λ v. MembersFit (Fits types.now.list.now types.now.levels) members.now.extensible members.now.components.now v.items) }
     ensures rules { IfErr (reported result walk.new.error) (λ e. e.codec ≡ decoder.old.rule) }
-    ensures told { Told (IsFaultIn types.now below (IsMemberAfter (shape_of_type types.now below) extensible components.now other_id.0 decoder.old) decoder.old decoder.old) (reported result walk.new.error) walk.new.fault }
-    ensures itself { IfErr (reported result walk.new.error) (λ e. walk.new.fault ≡ None → StopsInSet (shape_of_type types.now below) name.now extensible components.now decoder.old e) }
-    ensures listed { IfOk (reported result walk.new.error) (λ v. Lists (λ b es. MembersListed (shape_of_type types.now below) below (Inside types.now below) extensible components.now other_id.0 b decoder.old es) walk.old.spans walk.new.spans) }
+    ensures told { Told (IsFaultIn types.now.list.now types.now.levels (IsMemberAfter (shape_of_type types.now.list.now types.now.levels) members.now.extensible members.now.components.now members.now.other_id.0 decoder.old) decoder.old decoder.old) (reported result walk.new.error) walk.new.fault }
+    ensures itself { IfErr (reported result walk.new.error) (λ e. walk.new.fault ≡ None → StopsInSet (shape_of_type types.now.list.now types.now.levels) members.now.name.now members.now.extensible members.now.components.now decoder.old e) }
+    ensures listed { IfOk (reported result walk.new.error) (λ v. Lists (λ b es. MembersListed (shape_of_type types.now.list.now types.now.levels) types.now.levels (Inside types.now.list.now types.now.levels) members.now.extensible members.now.components.now members.now.other_id.0 b decoder.old es) walk.old.spans walk.new.spans) }
 {
     let mut unknown = Vec::new(decoder.alloc());
     let mut twice = None;
@@ -1180,11 +959,7 @@ fn decode_set_components<'input, M: Made>(
             decoder,
             walk,
             types,
-            below,
-            name,
-            components,
-            extensible,
-            other_id,
+            members,
             &mut found,
             &mut unknown,
         )?;
@@ -1194,8 +969,11 @@ fn decode_set_components<'input, M: Made>(
         walk.error = DecodeError::duplicate_field(decoder.alloc(), repeated, decoder.codec());
         return Err(Refused);
     }
-    let mut values = kept(gather::<M>(decoder, components, found), &mut walk.error)?;
-    if !extensible {
+    let mut values = kept(
+        gather::<M>(decoder, members.components, found),
+        &mut walk.error,
+    )?;
+    if !members.extensible {
         return Ok(values);
     }
     let mut others = Value::Items(unknown);
@@ -1215,42 +993,39 @@ fn decode_set_components<'input, M: Made>(
 fn decode_set_component<'input, 'names, M: Made>(
     decoder: &mut Decoder<'input>,
     walk: &mut Walk<'input>,
-    types: &[Type],
-    below: usize,
-    name: &str,
-    components: &'names [Component],
-    extensible: bool,
-    other_id: TypeId,
+    types: &Types<'_>,
+    members: &Members<'names>,
     found: &mut Vec<Option<Value<'input>>>,
     unknown: &mut Vec<Value<'input>>,
 ) -> Result<Option<&'names str>, Refused>
-    requires lawful { AreLawfulMembers (components_by (shape_of_type types.now below) components.now) }
-    requires found { FoundFit (λ k v. M.KEEP ≡ true → Fits types.now below k v) components.now found.old.items }
+    requires lawful { AreLawfulMembers (components_by (shape_of_type types.now.list.now types.now.levels) members.now.components.now) }
+    requires found { FoundFit (λ k v. M.KEEP ≡ true → Fits types.now.list.now types.now.levels k v) members.now.components.now found.old.items }
     requires clear { walk.old.fault ≡ None }
-    requires other { extensible ≡ true → shape_of_type types.now below other_id.0 ≡ unknown_values }
-    ensures next { DecodesMember M.KEEP extensible (components_by (shape_of_type types.now below) components.now) (names_of components.now) found.old.items unknown.old.items decoder.old (reported result walk.new.error) decoder.new found.new.items unknown.new.items }
-    ensures found { FoundFit (λ k v. M.KEEP ≡ true → Fits types.now below k v) components.now found.new.items }
+    requires other { members.now.extensible ≡ true → shape_of_type types.now.list.now types.now.levels members.now.other_id.0 ≡ unknown_values }
+    ensures next { DecodesMember M.KEEP members.now.extensible (components_by (shape_of_type types.now.list.now types.now.levels) members.now.components.now) (names_of members.now.components.now) found.old.items unknown.old.items decoder.old (reported result walk.new.error) decoder.new found.new.items unknown.new.items }
+    ensures found { FoundFit (λ k v. M.KEEP ≡ true → Fits types.now.list.now types.now.levels k v) members.now.components.now found.new.items }
     ensures octets { M.KEEP ≡ true → IfOk (reported result walk.new.error) (λ v. EachFits AreOctetsValue unknown.old.items → EachFits AreOctetsValue unknown.new.items) }
-    ensures unknown { IfErr (reported result walk.new.error) (λ e. IsNoMember extensible (components_by (shape_of_type types.now below) components.now) name.now decoder.old e decoder.new) }
+    ensures unknown { IfErr (reported result walk.new.error) (λ e. IsNoMember members.now.extensible (components_by (shape_of_type types.now.list.now types.now.levels) members.now.components.now) members.now.name.now decoder.old e decoder.new) }
     ensures rules { IfErr (reported result walk.new.error) (λ e. e.codec ≡ decoder.old.rule) }
-    ensures told { Told (IsFaultIn types.now below (IsMemberHere (shape_of_type types.now below) extensible components.now other_id.0 decoder.old) decoder.old decoder.old) (reported result walk.new.error) walk.new.fault }
-    ensures itself { IfErr (reported result walk.new.error) (λ e. walk.new.fault ≡ None → StopsAtMember (shape_of_type types.now below) name.now extensible components.now decoder.old e) }
-    ensures listed { IfOk (reported result walk.new.error) (λ v. Lists (λ b es. MemberListed (shape_of_type types.now below) below (Inside types.now below) extensible components.now other_id.0 b decoder.old decoder.new es) walk.old.spans walk.new.spans) }
+    ensures told { Told (IsFaultIn types.now.list.now types.now.levels (IsMemberHere (shape_of_type types.now.list.now types.now.levels) members.now.extensible members.now.components.now members.now.other_id.0 decoder.old) decoder.old decoder.old) (reported result walk.new.error) walk.new.fault }
+    ensures itself { IfErr (reported result walk.new.error) (λ e. walk.new.fault ≡ None → StopsAtMember (shape_of_type types.now.list.now types.now.levels) members.now.name.now members.now.extensible members.now.components.now decoder.old e) }
+    ensures listed { IfOk (reported result walk.new.error) (λ v. Lists (λ b es. MemberListed (shape_of_type types.now.list.now types.now.levels) types.now.levels (Inside types.now.list.now types.now.levels) members.now.extensible members.now.components.now members.now.other_id.0 b decoder.old decoder.new es) walk.old.spans walk.new.spans) }
 {
     let left = decoder.remaining().len();
     let tag = peek(decoder, &mut walk.error)?;
-    let Some((number, component)) = component_for(types, below, components, tag) else {
-        if !extensible {
-            refuse_choice(&mut walk.error, decoder, name);
+    let Some((number, component)) = component_for(types.list, types.levels, members.components, tag)
+    else {
+        if !members.extensible {
+            refuse_choice(&mut walk.error, decoder, members.name);
             return Err(Refused);
         }
-        let index = components.len();
-        let mut other = decode_unknown_component(decoder, walk, below, other_id, index)?;
+        let (id, index) = (members.other_id, members.components.len());
+        let mut other = decode_unknown_component(decoder, walk, types.levels, id, index)?;
         take::<M>(decoder, &mut walk.error, &mut other, unknown)?;
         return Ok(None);
     };
     let mut value = Value::Absent;
-    decode_present::<M>(decoder, walk, types, below, component, number, &mut value)?;
+    decode_present::<M>(decoder, walk, types, component, number, &mut value)?;
     if decoder.remaining().len() == left {
         refuse_extra(&mut walk.error, decoder, left);
         return Err(Refused);

@@ -16,6 +16,19 @@ use rasn_schema::{Component, Presence, Type, TypeId, Value, begins, is_unknown_a
 use rasn_types::error::DecodeError;
 use rasn_types::types::Tag;
 
+/// The components of a SET.
+#[derive(Clone, Copy)]
+pub struct Members<'names> {
+    /// The name of the SET.
+    pub name: &'names str,
+    /// The components that it names.
+    pub components: &'names [Component],
+    /// Whether there may be unknown ones among them (X.680 27).
+    pub extensible: bool,
+    /// The type of those.
+    pub other_id: TypeId,
+}
+
 /// Returns the components that a SET names, and whether there may be unknown ones among them: then
 /// its last component is unknown values (X.680 27).
 pub fn named_components<'components>(

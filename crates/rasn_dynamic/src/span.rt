@@ -1,7 +1,7 @@
 //! The parts of a message, as they are read.
-ghost use Rattle.std.specs.Prelude.{◌≡◌, [], length};
+ghost use Rattle.std.specs.Prelude.{◌≡◌, [], length, Some, None};
 ghost use Rattle.rasn_dynamic.specs.Faults.{octets_after};
-ghost use Rattle.rasn_dynamic.specs.Listed.{IsEmpty, HasRoom, IsNoted, IsFinished, IsInside, IsOutside, IsCut};
+ghost use Rattle.rasn_dynamic.specs.Listed.{IsEmpty, HasRoom, IsNoted, IsFinished, IsInside, IsOutside, IsCut, is_wanted};
 
 use crate::trace::octets_after;
 use rasn_de::ber::de::Decoder;
@@ -18,8 +18,8 @@ pub struct Span<'input> {
     pub id: TypeId,
     /// Its index in the value that holds it.
     pub index: usize,
-    /// How deep types are followed from it: in a part one less than in the value that holds it.
-    pub levels: usize,
+    /// In how many others it is: 0 for the message itself.
+    pub depth: usize,
     /// How many octets there are from its start to the end of the message.
     pub left: usize,
     /// All of its octets; while it is read, those from its start on.
@@ -34,6 +34,8 @@ pub struct Spans<'input> {
     pub list: Option<Vec<Span<'input>>>,
     /// How many octets of the message follow those that the decoder sees.
     pub after: usize,
+    /// Of which types the parts are listed, by the numbers of the types. `None`: of all.
+    pub wanted: Option<Vec<bool>>,
 }
 
 /// Returns a list of parts that notes none.
@@ -41,6 +43,7 @@ pub fn no_list<'input>() -> Spans<'input> {
     Spans {
         list: None,
         after: 0,
+        wanted: None,
     }
 }
 
@@ -57,11 +60,39 @@ fn empty_list<'input>(alloc: Global, len: usize) -> Vec<Span<'input>>
 
 /// Returns an empty list of the parts of a message of `len` octets.
 pub fn new_list<'input>(alloc: Global, len: usize) -> Spans<'input>
-    ensures { IsEmpty result }
+    ensures empty { IsEmpty result }
+    ensures all { result.wanted ≡ None }
 {
     Spans {
         list: Some(empty_list(alloc, len)),
         after: 0,
+        wanted: None,
+    }
+}
+
+/// Returns an empty list of those parts of a message whose types are wanted.
+pub fn new_list_of<'input>(alloc: Global, wanted: Vec<bool>) -> Spans<'input>
+    ensures empty { IsEmpty result }
+    ensures wanted { result.wanted ≡ Some wanted }
+{
+    Spans {
+        list: Some(Vec::new(alloc)),
+        after: 0,
+        wanted: Some(wanted),
+    }
+}
+
+/// Returns whether parts of a type are listed.
+#[inline(always)]
+fn is_wanted(spans: &Spans<'_>, id: TypeId) -> bool
+    ensures { result ≡ is_wanted spans.now.wanted id.0 }
+{
+    match &spans.wanted {
+        Some(types) => match types.get(id.0) {
+            Some(is_wanted) => *is_wanted,
+            None => false,
+        },
+        None => true,
     }
 }
 
@@ -95,8 +126,9 @@ fn make_room(spans: &mut Spans<'_>)
     }
 }
 
-/// Notes a part that is read next. Returns its place in the list. If memory runs out, there is no
-/// list from then on.
+/// Notes a part that is read next, if it is to be listed; from it types are followed `levels` deep:
+/// as deep as can be from the message, and one level less from each part inside. Returns its place
+/// in the list. If memory runs out, there is no list from then on.
 #[inline(always)]
 pub fn note<'input>(
     spans: &mut Spans<'input>,
@@ -107,6 +139,9 @@ pub fn note<'input>(
 ) -> usize
     ensures { IsNoted id index levels octets.now spans.old result spans.new }
 {
+    if !is_wanted(spans, id) {
+        return usize::MAX;
+    }
     make_room(spans);
     let left = spans.after.saturating_add(octets.len());
     let Some(list) = &mut spans.list else {
@@ -116,7 +151,7 @@ pub fn note<'input>(
     list.push_reserved(Span {
         id,
         index,
-        levels,
+        depth: usize::MAX - levels,
         left,
         octets,
     });
@@ -130,7 +165,7 @@ fn cut<'input>(octets: &'input [u8], rest: &[u8]) -> &'input [u8]
     &octets[..octets.len().saturating_sub(rest.len())]
 }
 
-/// Ends the part at this place of the list: its octets are those before the rest.
+/// Ends the part at this place of the list, if it is listed: its octets are those before the rest.
 #[inline(always)]
 pub fn finish(spans: &mut Spans<'_>, place: usize, rest: &[u8])
     ensures { IsFinished place rest.now spans.old spans.new }

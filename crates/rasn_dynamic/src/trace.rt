@@ -1,7 +1,7 @@
 //! Where in the input a value couldn't be read.
 ghost use Rattle.std.specs.Prelude.{◌≡◌, ◌+◌, ◌<◌, ◌≤◌, ◌^◌, Option, Some, length};
 ghost use Rattle.rasn_dynamic.specs.Faults.{IsMarked, IsLonger, IsStepped, IsMoved, octets_after};
-ghost use Rattle.rasn_dynamic.specs.declared.trace.Fault.{Fault};
+ghost use Rattle.rasn_dynamic.specs.declared.trace.UnreadValue.{UnreadValue};
 
 use rasn_de::ber::de::Decoder;
 use rasn_schema::TypeId;
@@ -9,7 +9,7 @@ use std::alloc::Global;
 
 /// The innermost value that couldn't be read.
 #[derive(Drop)]
-pub struct Fault {
+pub struct UnreadValue {
     /// The number of its type.
     pub id: TypeId,
     /// How many octets there are from its start to the end of what its decoder sees.
@@ -23,13 +23,13 @@ pub struct Fault {
 /// Names a value, unless one inside it is named.
 #[cold]
 #[inline(never)]
-pub fn mark(alloc: Global, trace: &mut Option<Fault>, id: TypeId, left: usize)
+pub fn mark(alloc: Global, trace: &mut Option<UnreadValue>, id: TypeId, left: usize)
     ensures { IsMarked id left trace.old trace.new }
 {
     match trace {
         Some(_) => {}
         None => {
-            *trace = Some(Fault {
+            *trace = Some(UnreadValue {
                 id,
                 left,
                 steps: Vec::new(alloc),
@@ -40,7 +40,7 @@ pub fn mark(alloc: Global, trace: &mut Option<Fault>, id: TypeId, left: usize)
 }
 
 /// Adds a step outwards, unless steps are missing already. If memory runs out, this one is.
-fn lengthen(fault: &mut Fault, index: usize)
+fn lengthen(fault: &mut UnreadValue, index: usize)
     ensures { IsLonger index fault.old fault.new }
 {
     if fault.is_cut {
@@ -54,7 +54,7 @@ fn lengthen(fault: &mut Fault, index: usize)
 /// Adds a step outwards. What is named stays named.
 #[cold]
 #[inline(never)]
-pub fn step(trace: &mut Option<Fault>, index: usize)
+pub fn step(trace: &mut Option<UnreadValue>, index: usize)
     ensures { IsStepped index trace.old trace.new }
 {
     if let Some(fault) = trace {
@@ -65,8 +65,14 @@ pub fn step(trace: &mut Option<Fault>, index: usize)
 /// Names a value that holds no others as the part with this index, unless one inside it is named.
 #[cold]
 #[inline(never)]
-pub fn mark_part(alloc: Global, trace: &mut Option<Fault>, id: TypeId, left: usize, index: usize)
-    ensures { (mid : Option Fault) × IsMarked id left trace.old mid × IsStepped index mid trace.new }
+pub fn mark_part(
+    alloc: Global,
+    trace: &mut Option<UnreadValue>,
+    id: TypeId,
+    left: usize,
+    index: usize,
+)
+    ensures { (mid : Option UnreadValue) × IsMarked id left trace.old mid × IsStepped index mid trace.new }
 {
     mark(alloc, trace, id, left);
     step(trace, index);
@@ -96,8 +102,8 @@ pub fn octets_after(decoder: &Decoder<'_>, inner: &Decoder<'_>) -> usize
 /// Counts octets that follow the contents, which the decoder of the contents doesn't see.
 #[cold]
 #[inline(never)]
-pub fn add_after(trace: &mut Option<Fault>, after: usize)
-    requires { (f : Fault) → trace.old ≡ Some f → f.left + after < 2 ^ 64 }
+pub fn add_after(trace: &mut Option<UnreadValue>, after: usize)
+    requires { (f : UnreadValue) → trace.old ≡ Some f → f.left + after < 2 ^ 64 }
     ensures { IsMoved after trace.old trace.new }
 {
     if let Some(fault) = trace {

@@ -14,7 +14,7 @@ use std::alloc::AllocError;
 
 /// A part of a value: its index, and the number of its type.
 #[derive(Drop)]
-pub struct Part<'value, 'input> {
+pub struct UnfitPart<'value, 'input> {
     index: usize,
     type_id: TypeId,
     value: &'value Value<'input>,
@@ -24,14 +24,14 @@ pub struct Part<'value, 'input> {
 fn chosen_part<'value, 'input>(
     alternatives: &[Alternative],
     value: &'value Value<'input>,
-) -> Option<Part<'value, 'input>>
+) -> Option<UnfitPart<'value, 'input>>
     ensures { MatchOption result (IsChosen (AlternativeFits (λ j w. Unit {0}) alternatives.now) value.now → ⊥) (λ p. IsChosen (IsOfAlternative alternatives.now p.index p.type_id.0 p.value.now) value.now) }
 {
     let Value::Chosen(index, inner) = value else {
         return None;
     };
     let alternative = alternatives.get(*index)?;
-    Some(Part {
+    Some(UnfitPart {
         index: *index,
         type_id: alternative.type_id,
         value: inner,
@@ -45,7 +45,7 @@ fn first_unfit_component<'value, 'input>(
     below: usize,
     components: &[Component],
     values: &'value [Value<'input>],
-) -> Option<Part<'value, 'input>>
+) -> Option<UnfitPart<'value, 'input>>
     requires { ComponentsFit (Fits types.now below) components.now values.now → ⊥ }
     ensures { MatchOption result (ComponentsFit (λ j w. Unit {0}) components.now values.now → ⊥) (λ p. IsComponent components.now p.index p.type_id.0 p.value.now values.now × (Fits types.now below p.type_id.0 p.value.now → ⊥)) }
 {
@@ -53,7 +53,7 @@ fn first_unfit_component<'value, 'input>(
     while let Some(component) = components.get(index) {
         let value = values.get(index)?;
         if !component_fits(types, below, component, value) {
-            return Some(Part {
+            return Some(UnfitPart {
                 index,
                 type_id: component.type_id,
                 value,
@@ -70,14 +70,14 @@ fn first_unfit_element<'value, 'input>(
     below: usize,
     element: TypeId,
     values: &'value [Value<'input>],
-) -> Option<Part<'value, 'input>>
+) -> Option<UnfitPart<'value, 'input>>
     requires { EachFits (Fits types.now below element.0) values.now → ⊥ }
     ensures { MatchOption result ⊥ (λ p. IsElement element.0 p.index p.type_id.0 p.value.now values.now × (Fits types.now below p.type_id.0 p.value.now → ⊥)) }
 {
     let mut index = 0;
     while let Some(value) = values.get(index) {
         if !fits_at(types, below, element, value) {
-            return Some(Part {
+            return Some(UnfitPart {
                 index,
                 type_id: element,
                 value,
@@ -95,7 +95,7 @@ fn first_unfit_part<'value, 'input>(
     below: usize,
     ty: &Type,
     value: &'value Value<'input>,
-) -> Option<Part<'value, 'input>>
+) -> Option<UnfitPart<'value, 'input>>
     requires plain { (tag : Tag) (k : TypeId) → ty.now ≡ Tagged tag k → ⊥ }
     requires unfit { FitsBy (Fits types.now below) ty.now value.now → ⊥ }
     ensures { MatchOption result (IsOtherForm ty.now value.now) (λ p. IsPart ty.now value.now p.index p.type_id.0 p.value.now × (Fits types.now below p.type_id.0 p.value.now → ⊥)) }

@@ -2,13 +2,13 @@
 ghost use Rattle.std.specs.Prelude.{◌≡◌, ◌+◌, ◌<◌, ◌^◌, length, Some, None};
 ghost use Rattle.rasn_de.specs.Set.{PeeksInOrder};
 ghost use Rattle.rasn_de.specs.Steps.{PeeksTag, IsNextTag};
-ghost use Rattle.rasn_dynamic.specs.declared.trace.Fault.{Fault};
+ghost use Rattle.rasn_dynamic.specs.declared.trace.UnreadValue.{UnreadValue};
 ghost use Rattle.rasn_dynamic.specs.Faults.{octets_after};
 ghost use Rattle.rasn_dynamic.specs.Making.{reported};
 ghost use Rattle.rasn_dynamic.specs.Readers.{IsCounted};
 
 use crate::span::Spans;
-use crate::trace::{Fault, add_after, octets_after};
+use crate::trace::{UnreadValue, add_after, octets_after};
 use rasn_de::ber::de::Decoder;
 use rasn_types::error::{DecodeError, DecodeErrorKind};
 use rasn_types::types::{Codec, Tag};
@@ -21,7 +21,7 @@ pub struct Refused;
 #[derive(Drop)]
 pub struct Walk<'input> {
     /// The innermost value that can't be read, once one can't.
-    pub fault: Option<Fault>,
+    pub fault: Option<UnreadValue>,
     /// Why it can't be read. Until then, any error.
     pub error: DecodeError,
     /// The parts that have been read.
@@ -60,20 +60,20 @@ pub fn kept<T>(outcome: Result<T, DecodeError>, error: &mut DecodeError) -> Resu
     }
 }
 
-/// Passes on whether contents were read. If they weren't, counts the octets after them, which their
+/// Passes on how many elements were read in contents. If the contents weren't read, counts the octets after them, which their
 /// decoder doesn't see, for the value inside that is named.
 #[inline(always)]
 pub fn count_after(
     decoder: &Decoder<'_>,
     inner: &Decoder<'_>,
-    fault: &mut Option<Fault>,
-    read: Result<(), Refused>,
-) -> Result<(), Refused>
-    requires { (f : Fault) → fault.old ≡ Some f → f.left + octets_after inner.now.closing (length decoder.now.rest) < 2 ^ 64 }
+    fault: &mut Option<UnreadValue>,
+    read: Result<usize, Refused>,
+) -> Result<usize, Refused>
+    requires { (f : UnreadValue) → fault.old ≡ Some f → f.left + octets_after inner.now.closing (length decoder.now.rest) < 2 ^ 64 }
     ensures { IsCounted (octets_after inner.now.closing (length decoder.now.rest)) read fault.old result fault.new }
 {
     match read {
-        Ok(()) => Ok(()),
+        Ok(count) => Ok(count),
         Err(refused) => {
             add_after(fault, octets_after(decoder, inner));
             Err(refused)

@@ -47,9 +47,11 @@ number_once n m j (few, (s, e, d, a)) (t, f, b) =
 
 integer_once : (kind : LeafKind) (names : List NamedNumber) (n m : ℤ) (j : Json) → HaveOwnNames name_of_number names → IntegerJson kind names n j → IntegerRead kind names j m → n ≡ m
 integer_once kind names n m j own (inl (x, a)) (inl (y, b)) = name_once names n m j own a b
-integer_once kind names n m j own (inl (x, (i, q, at, is, e))) (inr (t, f, b)) = let g : None ≡ Some t = sym (ap as_number e) ∙ f in absurd cc
+integer_once kind names n m j own (inl (x, (i, q, at, is, e))) (inr (inl (t, f, b))) = let g : None ≡ Some t = sym (ap as_number e) ∙ f in absurd cc
+integer_once kind names n m j own (inl (x, a)) (inr (inr (closed, b))) = absurd (closed x)
 integer_once kind names n m j own (inr (x, (few, (s, e, d, a)))) (inl (y, b)) = let g : None ≡ Some b.0 = sym (ap as_str e) ∙ b.1 in absurd cc
-integer_once kind names n m j own (inr (x, a)) (inr b) = number_once n m j a b
+integer_once kind names n m j own (inr (x, a)) (inr (inl b)) = number_once n m j a b
+integer_once kind names n m j own (inr (x, (few, (s, e, d, a)))) (inr (inr (closed, (t, f, b)))) = let g : None ≡ Some t = sym (ap as_str e) ∙ f in absurd cc
 
 -- ---- strings
 

@@ -17,10 +17,12 @@ use Rattle.rasn_json.specs.declared.entry.ToJsonError.{ToJsonError}
 use Rattle.rasn_json.specs.declared.entry.ToJsonError.TheVariants.{Decode, Json as NoJson}
 use Rattle.rasn_json.specs.declared.entry.EncodeJsonError.{EncodeJsonError}
 use Rattle.rasn_json.specs.declared.entry.EncodeJsonError.TheVariants.{Json as NotRead, Encode}
+use Rattle.rasn_dynamic.specs.declared.entry.WriteError.TheVariants.{Encode as OfEncode, Unfit}
+use Rattle.rasn_types.specs.Errors.{IsEncodeOutOfMemory}
 use Rattle.rasn_json.specs.declared.error.JsonError.{JsonError}
 use Rattle.rasn_json.specs.Json.{JsonWithin}
 use Rattle.rasn_json.specs.Reading.{ReadAt}
-use Rattle.rasn_json.specs.Refusals.{IsRefusedAt, OrMemory}
+use Rattle.rasn_json.specs.Refusals.{IsMemory, IsRefusedAt, OrMemory}
 
 -- The text is JSON of the value, in which at most 512 arrays and objects are nested.
 abbrev pub HasJson : List «Type» → ℕ → Value → List ℕ → Type 0
@@ -53,3 +55,9 @@ IsReadAs types id text v = (j : Json) × (value 512 (tokens text) ≡ Some (j, [
 abbrev pub IsNotEncodedFrom : Codec → List «Type» → ℕ → List ℕ → EncodeJsonError → Type 0
 IsNotEncodedFrom rule types id text (NotRead e) = Unit {0}
 IsNotEncodedFrom rule types id text (Encode e) = (v : Value) × FitsType types id v × IsReadAs types id text v × IsNotEncoded rule types id v e
+
+-- The cause is that memory ran out.
+abbrev pub IsMemoryAlone : EncodeJsonError → Type 0
+IsMemoryAlone (NotRead e) = IsMemory e
+IsMemoryAlone (Encode (OfEncode e)) = IsEncodeOutOfMemory e.kind
+IsMemoryAlone (Encode (Unfit path)) = ⊥

@@ -61,9 +61,13 @@ WholeRead j n = (s : List ℕ) × (as_number j ≡ Some s) × IsWhole s n
 abbrev pub NameRead : List NamedNumber → Json → ℤ → Type 0
 NameRead names j n = (s : List ℕ) × (as_str j ≡ Some s) × (i : ℕ) × (m : NamedNumber) × (Some m ≡ slice_get names i) × (string_bytes m.name ≡ s) × (m.number ≡ n)
 
--- A number, or in an ENUMERATED with an extension marker a name.
+-- The number whose decimal digits the string is.
+abbrev pub NumeralRead : Json → ℤ → Type 0
+NumeralRead j n = (s : List ℕ) × (as_str j ≡ Some s) × IsWhole s n
+
+-- A number or its digits, or in an ENUMERATED with an extension marker a name or a number.
 abbrev pub IntegerRead : LeafKind → List NamedNumber → Json → ℤ → Type 0
-IntegerRead kind names j n = (IsExtensible kind names × NameRead names j n) ⊎ WholeRead j n
+IntegerRead kind names j n = (IsExtensible kind names × NameRead names j n) ⊎ (WholeRead j n ⊎ ((IsExtensible kind names → ⊥) × NumeralRead j n))
 
 abbrev pub EnumeratedRead : List NamedNumber → Json → Value → Type 0
 EnumeratedRead names j (Number n) = NameRead names j n

@@ -1,5 +1,5 @@
 //! Values as JSON text, and octets as JSON text.
-ghost use Rattle.std.specs.Prelude.{◌≡◌, Ok, IfOk, IfErr, IsUtf8, OnOk, string_bytes};
+ghost use Rattle.std.specs.Prelude.{◌≡◌, ◌↔◌, Ok, IfOk, IfErr, IsTrue, IsUtf8, OnOk, string_bytes};
 ghost use Rattle.json.specs.Lex.{tokens};
 ghost use Rattle.json.specs.Print.{print};
 ghost use Rattle.json.specs.Layout.{pretty};
@@ -8,7 +8,7 @@ ghost use Rattle.rasn_schema.specs.declared.value.Value.{Value};
 ghost use Rattle.rasn_schema.specs.Trees.{tree_of};
 ghost use Rattle.rasn_dynamic.specs.Entry.{FitsType, IsEncoded, shape_of};
 ghost use Rattle.rasn_json.specs.Json.{Appends, JsonWithin};
-ghost use Rattle.rasn_json.specs.Entry.{HasJson, HasNoJson, IsLaidOut, IsNoJsonOf, IsNotEncodedFrom, IsReadAs};
+ghost use Rattle.rasn_json.specs.Entry.{HasJson, HasNoJson, IsLaidOut, IsMemoryAlone, IsNoJsonOf, IsNotEncodedFrom, IsReadAs};
 
 use crate::error::JsonError;
 use crate::kept::Refused;
@@ -16,7 +16,7 @@ use crate::layout::Layout;
 use crate::reader::value_at;
 use crate::syntax::{MAX_NESTING, parse};
 use crate::tokens::{Compact, Tokens};
-use crate::writer::{Place, put_at};
+use crate::writer::{ValuePlace, put_at};
 use json::{Pretty, Scratch, Writer};
 use rasn_dynamic::{WriteError, decode};
 use rasn_schema::{Schema, TypeId, Value};
@@ -75,7 +75,7 @@ fn put_whole<T: Tokens>(
     ensures ok { OnOk result (Appends (JsonWithin schema.now.types.items usize.MAX MAX_NESTING id.0 value.now) (T.Tokens.written out.old) (T.Tokens.written out.new)) }
     ensures err { IfErr result (HasNoJson schema.now.types.items id.0 value.now) }
 {
-    let place = Place {
+    let place = ValuePlace {
         alloc,
         types: schema.types(),
         levels: usize::MAX,
@@ -188,7 +188,9 @@ pub enum EncodeJsonError {
 
 impl EncodeJsonError {
     /// Returns whether memory ran out.
-    pub fn is_out_of_memory(&self) -> bool {
+    pub fn is_out_of_memory(&self) -> bool
+        ensures { IsTrue result ↔ IsMemoryAlone self.now }
+    {
         match self {
             EncodeJsonError::Json(error) => error.is_out_of_memory(),
             EncodeJsonError::Encode(WriteError::Encode(error)) => error.is_out_of_memory(),

@@ -1,5 +1,6 @@
 //! What is wrong with JSON, or with a value that has none.
 ghost use Rattle.std.specs.Prelude.{◌≡◌, Ok, IfErr, IsErr, MatchResult};
+ghost use Rattle.rasn_types.specs.Truth.{IsWhether};
 ghost use Rattle.rasn_json.specs.Refusals.{IsMemory};
 
 use rasn_schema::TypeId;
@@ -162,8 +163,10 @@ impl JsonError {
     }
 
     /// Returns whether memory ran out.
-    pub fn is_out_of_memory(&self) -> bool {
-        matches!(self.kind, JsonErrorKind::OutOfMemory)
+    pub fn is_out_of_memory(&self) -> bool
+        ensures { IsWhether result (IsMemory self.now) }
+    {
+        matches!(&self.kind, JsonErrorKind::OutOfMemory)
     }
 
     /// Returns the error of a value of which the one with the error is the member with this name.

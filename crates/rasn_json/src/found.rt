@@ -1,8 +1,9 @@
 //! Which form a JSON value has.
-ghost use Rattle.std.specs.Prelude.{◌≡◌, Some, IfOk};
+ghost use Rattle.std.specs.Prelude.{◌≡◌, ◌⊎◌, Some, IfOk};
 ghost use Rattle.json.specs.Find.{as_str};
 ghost use Rattle.json.specs.Value.{value_view};
-ghost use Rattle.rasn_json.specs.Reading.{WholeRead};
+ghost use Rattle.rasn_json.specs.Decimal.{IsWhole};
+ghost use Rattle.rasn_json.specs.Reading.{NumeralRead, WholeRead};
 
 use crate::decimal::{MAX_NUMBER_CHARACTERS, integer_of, is_long};
 use crate::error::{JsonError, JsonErrorKind, or_memory};
@@ -53,9 +54,26 @@ pub fn whole_number(
 ) -> Result<Integer, JsonError>
     ensures { IfOk result (λ n. WholeRead (value_view json.now) n) }
 {
-    let Some(text) = json.as_number() else {
-        return Err(other_form(alloc, expected, json));
-    };
+    match json.as_number() {
+        Some(text) => number_in(alloc, text),
+        None => Err(other_form(alloc, expected, json)),
+    }
+}
+
+/// Returns a whole number or the one whose digits a string is, unless it has too many octets.
+pub fn number_or_digits(alloc: Global, json: &Json<'_>) -> Result<Integer, JsonError>
+    ensures { IfOk result (λ n. WholeRead (value_view json.now) n ⊎ NumeralRead (value_view json.now) n) }
+{
+    match json.as_str() {
+        Some(text) => number_in(alloc, text),
+        None => whole_number(alloc, "a number", json),
+    }
+}
+
+/// Returns the whole number that a text is, unless it has too many octets.
+fn number_in(alloc: Global, text: &str) -> Result<Integer, JsonError>
+    ensures { IfOk result (IsWhole text.now) }
+{
     if text.len() > MAX_NUMBER_CHARACTERS {
         return Err(JsonError::new(alloc, JsonErrorKind::LongNumber));
     }

@@ -9,7 +9,7 @@ ghost use Rattle.rasn_json.specs.Json.{IsExtensible, IsUnnamed, NameJson};
 ghost use Rattle.rasn_json.specs.Reading.{EnumeratedRead, LeafRead, NameRead};
 
 use crate::error::{JsonError, JsonErrorKind};
-use crate::found::{copied, string_of, whole_number};
+use crate::found::{copied, number_or_digits, string_of, whole_number};
 use json::Value as Json;
 use rasn_schema::{LeafKind, NamedNumber, Value, index_named, leaf_fits};
 use rasn_types::types::{Bounded, Constraints, Integer};
@@ -42,7 +42,8 @@ fn out_of_range(alloc: Global, expected: Bounded<i128>) -> JsonError {
     JsonError::new(alloc, JsonErrorKind::NumberOutOfRange { expected })
 }
 
-/// Returns the value of an INTEGER that a JSON value is.
+/// Returns the value of an INTEGER that a JSON value is: a number, or a string of its digits, since
+/// many programs round numbers that a double hasn't.
 pub fn integer_value<'any>(
     alloc: Global,
     kind: LeafKind,
@@ -50,10 +51,11 @@ pub fn integer_value<'any>(
     names: &[NamedNumber],
     json: &Json<'_>,
 ) -> Result<Value<'any>, JsonError>
+    requires { IsExtensible kind names.now → ⊥ }
     ensures fits { IfOk result (λ v. FitsLeaf kind v) }
     ensures reads { IfOk result (LeafRead kind constraints.now names.now (value_view json.now)) }
 {
-    let number = whole_number(alloc, "a number", json)?;
+    let number = number_or_digits(alloc, json)?;
     if !constraints.admits_number(number.as_octets()) {
         return Err(out_of_range(alloc, constraints.value_bounds()));
     }

@@ -26,7 +26,7 @@ use std::alloc::Global;
 
 /// The types of a value that is written, and the limits there.
 #[derive(Clone, Copy)]
-pub struct Place<'types> {
+pub struct ValuePlace<'types> {
     pub alloc: Global,
     pub types: &'types [Type],
     /// Limits the types that are followed, one after the other.
@@ -39,7 +39,7 @@ pub struct Place<'types> {
 #[cycle(write)]
 pub fn put_at<T: Tokens>(
     out: &mut T,
-    place: &Place<'_>,
+    place: &ValuePlace<'_>,
     id: TypeId,
     value: &Value<'_>,
     error: &mut JsonError,
@@ -52,7 +52,7 @@ pub fn put_at<T: Tokens>(
     }
     match type_at(place.types, id) {
         Some(ty) => {
-            let below = Place {
+            let below = ValuePlace {
                 levels: place.levels - 1,
                 ..*place
             };
@@ -66,7 +66,7 @@ pub fn put_at<T: Tokens>(
 #[cycle(write)]
 fn put_value<T: Tokens>(
     out: &mut T,
-    place: &Place<'_>,
+    place: &ValuePlace<'_>,
     ty: &Type,
     value: &Value<'_>,
     error: &mut JsonError,
@@ -97,7 +97,7 @@ fn put_value<T: Tokens>(
             if place.depth == 0 {
                 return Err(refuse_depth(place.alloc, error));
             }
-            let inside = Place {
+            let inside = ValuePlace {
                 depth: place.depth - 1,
                 ..*place
             };
@@ -110,7 +110,7 @@ fn put_value<T: Tokens>(
 #[inline(never)]
 fn kept_leaf<T: Tokens>(
     out: &mut T,
-    place: &Place<'_>,
+    place: &ValuePlace<'_>,
     leaf: Leaf<'_>,
     value: &Value<'_>,
     error: &mut JsonError,
@@ -187,7 +187,7 @@ fn put_token<T: Tokens>(
 #[cycle(write)]
 fn put_inside<T: Tokens>(
     out: &mut T,
-    place: &Place<'_>,
+    place: &ValuePlace<'_>,
     ty: &Type,
     value: &Value<'_>,
     error: &mut JsonError,
@@ -221,7 +221,7 @@ fn put_inside<T: Tokens>(
 #[cycle(write)]
 fn put_chosen<T: Tokens>(
     out: &mut T,
-    place: &Place<'_>,
+    place: &ValuePlace<'_>,
     alternatives: &[Alternative],
     value: &Value<'_>,
     error: &mut JsonError,
@@ -245,7 +245,7 @@ fn put_chosen<T: Tokens>(
 #[cycle(write)]
 fn put_member<T: Tokens>(
     out: &mut T,
-    place: &Place<'_>,
+    place: &ValuePlace<'_>,
     name: &str,
     id: TypeId,
     value: &Value<'_>,
@@ -265,7 +265,7 @@ fn put_member<T: Tokens>(
 #[cycle(write)]
 fn put_object<T: Tokens>(
     out: &mut T,
-    place: &Place<'_>,
+    place: &ValuePlace<'_>,
     components: &[Component],
     values: &[Value<'_>],
     error: &mut JsonError,
@@ -316,7 +316,7 @@ fn is_unwritten(types: &[Type], component: &Component, value: &Value<'_>) -> boo
 #[cycle(write)]
 fn put_component<T: Tokens>(
     out: &mut T,
-    place: &Place<'_>,
+    place: &ValuePlace<'_>,
     component: &Component,
     value: &Value<'_>,
     error: &mut JsonError,
@@ -335,7 +335,7 @@ fn put_component<T: Tokens>(
 #[cycle(write)]
 fn put_array<T: Tokens>(
     out: &mut T,
-    place: &Place<'_>,
+    place: &ValuePlace<'_>,
     element: TypeId,
     values: &[Value<'_>],
     error: &mut JsonError,

@@ -13,7 +13,7 @@ use Rattle.rasn_dynamic.specs.declared.span.Span.{Span}
 use Rattle.rasn_dynamic.specs.Entry.{shape_of}
 use Rattle.rasn_dynamic.specs.Faults.{start}
 use Rattle.rasn_dynamic.specs.SameParts.{IsSamePart, AreSameParts, AreReadableTypes}
-use Rattle.rasn_dynamic.proofs.SameParts.{parts_determined}
+use Rattle.rasn_dynamic.proofs.SameParts.{as_parts, same_parts}
 use Rattle.rasn_lint.specs.declared.by_schema.OpenTypes.{OpenTypes}
 use Rattle.rasn_lint.specs.declared.by_schema.OpenTypes.TheVariants.{Unexamined, Examined}
 use Rattle.rasn.proofs.Normalised.{unchanged}
@@ -76,12 +76,12 @@ pub first_is_listed : FirstIsListed
 first_is_listed Unexamined types id input ds None lawful are l h = (λ q. l.clean.1 (h.0, tt), λ q. refl)
 first_is_listed Unexamined types id input ds (Some d) lawful are l h = (λ q. cc, λ q. absurd (h.0 (l.clean.0 q).0))
 first_is_listed Examined types id input ds None lawful are l (der, (ps, p, all)) =
-    let same = parts_determined types Der Ber id input ps l.parts lawful are p l.are_parts in
-    (λ q. l.clean.1 (der, same_formed types ps.list.items l.parts.list.items same all), λ q. refl)
+    let same = same_parts types Der Ber id input [] l.are_parts.last.rest ps l.parts.list.items lawful are p (as_parts types Ber id input l.parts l.are_parts) in
+    (λ q. l.clean.1 (der, same_formed types ps l.parts.list.items same all), λ q. refl)
 first_is_listed Examined types id input ds (Some d) lawful are l (inl h) = (λ q. cc, λ q. absurd (h.0 (l.clean.0 q).0))
 first_is_listed Examined types id input ds (Some d) lawful are l (inr (der, (ps, p, f))) =
-    let same = parts_determined types Ber Der id input l.parts ps lawful are l.are_parts p in
-    (λ q. cc, λ q. absurd (none_first types (length input) [] ps.list.items d (same_formed types l.parts.list.items ps.list.items same (l.clean.0 q).1) f))
+    let same = same_parts types Ber Der id input l.are_parts.last.rest [] l.parts.list.items ps lawful are (as_parts types Ber id input l.parts l.are_parts) p in
+    (λ q. cc, λ q. absurd (none_first types (length input) [] ps d (same_formed types l.parts.list.items ps same (l.clean.0 q).1) f))
 
 -- No part is open.
 none_open : (types : List «Type») → IsClosed Examined types → (len : ℕ) (path : List ℕ) (es : List Span) (d : Departure) → IsFirstIn types len path es d → ⊥
@@ -93,7 +93,7 @@ none_open types none len path (e ∷ es) d (inr (f, h)) = none_open types none l
 not_der : (opens : OpenTypes) (types : List «Type») (id : ℕ) (input : List ℕ) (d : Departure) → IsClosed opens types → IsFirstDeparture opens types id input (Some d) → IsDer types id input → ⊥
 not_der Unexamined types id input d none h k = h.0 k
 not_der Examined types id input d none (inl h) k = h.0 k
-not_der Examined types id input d none (inr (r, (ps, a, f))) k = none_open types none (length input) [] ps.list.items d f
+not_der Examined types id input d none (inr (r, (ps, a, f))) k = none_open types none (length input) [] ps d f
 
 pub closed_first_is_listed : ClosedFirstIsListed
 closed_first_is_listed opens types id input ds None none l h = (λ q. l.clean.1 (h.0, are_formed opens types none l.parts.list.items), λ q. refl)

@@ -1,12 +1,14 @@
 -- When a message has no departures, and what follows it.
 use Rattle.std.proofs.Common.{◌≡◌, ◌≢◌, ◌<◌, ◌≤◌, ◌+◌, inl, inr, ℕ, suc, List, [], ◌∷◌, ◌++◌, length, drop, get_or, drop-cons, add-one, Result, Ok, Err, Bool, true, false, Option, Some, None, Vec, Global, vec_len, ◌==◌, refl, sym, ap, ◌∙◌, subst, arith}
-use Rattle.std.specs.Prelude.{◌↔◌, IfOk, is_some, not, slice_get}
+use Rattle.std.specs.Prelude.{◌↔◌, ◌⊎◌, if◌then◌else◌, IfOk, is_some, not, slice_get}
+use Rattle.std.specs.List.{AllByRecursion}
 use Rattle.std.proofs.lemmas.Bool.Decides.{nat_tests}
 use Rattle.std.proofs.lemmas.List.{drop_all}
 use Rattle.std.proofs.Math.Seq.{drop-append_seam}
 use Rattle.std.specs.List.Sorted.{IsNonDecreasingBy, IsPermutation}
 use Rattle.std.proofs.lemmas.List.Sorted.{length_permutation}
 use Rattle.rasn_types.specs.declared.types.codec.Codec.TheVariants.{Ber, Der}
+use Rattle.rasn_types.specs.Errors.{IsOutOfMemory}
 use Rattle.rasn_types.specs.Grammar.{Reads, top}
 use Rattle.rasn_de.specs.Outcomes.{Exact, Got}
 use Rattle.rasn_schema.specs.declared.types.«Type».{«Type»}
@@ -14,17 +16,20 @@ use Rattle.rasn_schema.specs.declared.types.«Type».TheVariants.{Leaf, Enumerat
 use Rattle.rasn_dynamic.specs.declared.span.Span.{Span}
 use Rattle.rasn_dynamic.specs.declared.message.MessageParts.{MessageParts}
 use Rattle.rasn_dynamic.specs.declared.refusal.Refusal.{Refusal}
-use Rattle.rasn_dynamic.specs.Entry.{shape_of}
-use Rattle.rasn_dynamic.specs.Faults.{start}
-use Rattle.rasn_dynamic.specs.Walk.{ArePartsOf, path_after}
+use Rattle.rasn_dynamic.specs.Entry.{IsCheckedUpTo, shape_of}
+use Rattle.rasn_dynamic.specs.Faults.{IsLocated, start}
+use Rattle.rasn_dynamic.specs.Walk.{AreOpenPartsOf, AreParts, ArePartsOf, is_open, open_of, path_after}
+use Rattle.rasn_dynamic.specs.declared.message.ListedParts.{ListedParts}
 use Rattle.rasn_dynamic.proofs.Checked.{read_first}
-use Rattle.rasn_lint.specs.declared.by_schema.LintError.TheVariants.{Remainder}
+use Rattle.rasn_dynamic.proofs.SameParts.{as_parts}
+use Rattle.rasn_lint.specs.declared.by_schema.LintError.TheVariants.{Refused, Remainder}
 use Rattle.rasn_lint.specs.declared.by_schema.OpenTypes.{OpenTypes}
 use Rattle.rasn_lint.specs.declared.by_schema.OpenTypes.TheVariants.{Unexamined, Examined}
 use Rattle.rasn_lint.specs.declared.departure.Departure.{Departure}
 use Rattle.rasn_lint.specs.Lint.{IsDer, HasFormed, IsRemainderOf, IsAtFault, IsDerOrNot, IsClean, AreAll, offset_of, IsLint, IsNoLint, IsIllFormedAt, IsFirstOr, IsFirstDeparture, rest_after}
 use Rattle.rasn_lint.specs.Judged.{AreJudged, AreOpenDepartures}
 use Rattle.rasn_lint.specs.Refusals.{aspect_of}
+use Rattle.rasn_lint.proofs.Unread.{not_read as unread}
 use Rattle.rasn_lint.proofs.Judged.{none_typed, none_if_formed, formed_if_none, formed_if}
 
 last_empty : {A : Type 0} (b c : List A) → b ++ c ≡ [] → c ≡ []
@@ -145,17 +150,21 @@ module _ (types : List «Type») (id : ℕ) (input : List ℕ) where
   pub not_read : (d : Departure) → IsFirstDeparture Unexamined types id input (Some d) → IsFirstDeparture Examined types id input (Some d)
   not_read d h = inl h
 
-  -- What follows the first part of a message.
-  module _ (ps : MessageParts) (rest : List ℕ) (are : ArePartsOf types Der id input ps) (at : rest ≡ rest_after ps.list.items input) where
-    last_is : rest ≡ are.last.rest
-    last_is =
-        let l = are.listed in
-        at ∙ (ap (λ z. rest_after z input) l.is ∙ (ap (λ z. drop (length l.part.octets.now) z) l.octets ∙ drop-append_seam l.part.octets.now are.last.rest))
+  -- A refusal of the reader, if memory didn't run out.
+  pub refused_first : (r : Refusal) (d : Departure) → IsOutOfMemory r.error.kind ⊎ (IsLocated types Der id input r × IsCheckedUpTo Der (shape_of types id) input (Err r.error)) → (IsOutOfMemory r.error.kind → ⊥)
+      → d.refusal ≡ r → d.inner ≡ None → d.aspect ≡ aspect_of r.error.kind → IsFirstDeparture Examined types id input (Some d)
+  refused_first r d (inl m) n e i a = absurd (n m)
+  refused_first r d (inr (at, x)) n e i a = inl (
+    (λ k. unread r.error.kind (Reads Der (shape_of types id) 128 (top Der)) input x n k.0 [] k.1),
+    (subst (IsAtFault types id input) (sym e) (inl at), i, same_aspect d r e a),
+  )
 
+  -- The parts of a message, and what follows them.
+  module _ (all : List Span) (rest : List ℕ) (are : AreParts types Der id input rest all) where
     read : Exact (Reads Der (shape_of types id) 128 (top Der)) input (Got are.listed.tree rest)
-    read = read_first Der (shape_of types id) input (start Der input) refl are.listed.tree are.last rest (sym last_is) are.listed.reads
+    read = read_first Der (shape_of types id) input (start Der input) refl are.listed.tree are.last rest are.ends are.listed.reads
 
-    pub whole_is_read : rest ≡ [] → IsDer types id input
+    whole_is_read : rest ≡ [] → IsDer types id input
     whole_is_read e = (are.listed.tree, subst (λ z. Reads Der (shape_of types id) 128 (top Der) input are.listed.tree z) e read.0)
 
     pub remainder_first : (r : Refusal) (d : Departure) → IsRemainderOf input rest r → d.refusal ≡ r → d.inner ≡ None → d.aspect ≡ aspect_of r.error.kind → IsFirstDeparture Examined types id input (Some d)
@@ -164,10 +173,38 @@ module _ (types : List «Type») (id : ℕ) (input : List ℕ) where
       (subst (IsAtFault types id input) (sym e) (inr (are.listed.tree, rest, read.0, h)), i, same_aspect d r e a),
     )
 
-    pub parts_first : rest ≡ [] → (r : Option Departure) → IsFirstOr types (length input) [] ps.list.items r
+    pub parts_first : rest ≡ [] → (r : Option Departure) → IsFirstOr types (length input) [] all r
         → IsFirstDeparture Examined types id input r
-    parts_first e None h = (whole_is_read e, (ps, are, h))
-    parts_first e (Some d) h = inr (whole_is_read e, (ps, are, h))
+    parts_first e None h = (whole_is_read e, (all, subst (λ z. AreParts types Der id input z all) e are, h))
+    parts_first e (Some d) h = inr (whole_is_read e, (all, subst (λ z. AreParts types Der id input z all) e are, h))
+
+  -- Those of a list that is gone over.
+  pub listed_parts : (ps : MessageParts) (rest : List ℕ) → ArePartsOf types Der id input ps → rest ≡ rest_after ps.list.items input → AreParts types Der id input rest ps.list.items
+  listed_parts ps rest are at =
+      let l = are.listed in
+      let last_is : rest ≡ are.last.rest = at ∙ (ap (λ z. rest_after z input) l.is ∙ (ap (λ z. drop (length l.part.octets.now) z) l.octets ∙ drop-append_seam l.part.octets.now are.last.rest)) in
+      subst (λ z. AreParts types Der id input z ps.list.items) (sym last_is) (as_parts types Der id input ps are)
+
+  -- What isn't open is well formed.
+  formed_of : (e : Span) (b : Bool) → is_open (slice_get types e.id.0) ≡ b → b ≡ false → HasFormed types e
+  formed_of e b q n = (
+    (λ tag inside is has. let o : true ≡ false = sym (ap is_open is) ∙ (q ∙ n) in cc),
+    λ is. let o : true ≡ false = sym (ap is_open is) ∙ (q ∙ n) in cc,
+  )
+
+  all_if_open : (es : List Span) → AllByRecursion (HasFormed types) (open_of types es) → AllByRecursion (HasFormed types) es
+  all_if_open [] h = tt
+  all_if_open (e ∷ es) h = go (is_open (slice_get types e.id.0)) refl (λ k. all_if_open es k) h
+    where
+      go : (b : Bool) → is_open (slice_get types e.id.0) ≡ b → (AllByRecursion (HasFormed types) (open_of types es) → AllByRecursion (HasFormed types) es)
+          → AllByRecursion (HasFormed types) (if b then e ∷ open_of types es else open_of types es) → AllByRecursion (HasFormed types) (e ∷ es)
+      go true q others k = (k.0, others k.1)
+      go false q others k = (formed_of e false q refl, others k)
+
+  -- The open types of a message are well formed.
+  pub open_first : (o : ListedParts) → AreOpenPartsOf types Der id input o → o.rest.now ≡ [] → (list : List Span) → list ≡ o.list.items → IsFirstOr types (length input) [] list None
+      → IsFirstDeparture Examined types id input None
+  open_first o (all, are, is) e list same h = parts_first all o.rest.now are e None (all_if_open all (subst (AllByRecursion (HasFormed types)) (same ∙ is) h))
 
 pub some_departed : (v : Vec Departure Global) → false ≡ (vec_len v == 0) → v.items ≢ []
 some_departed v e q = let n : length v.items ≡ 0 = ap length q in grind (arith, nat_tests)
@@ -189,6 +226,12 @@ last_rest types id input ps a =
 pub nothing_left : (types : List «Type») (id : ℕ) (input : List ℕ) (ps : MessageParts) (a : ArePartsOf types Ber id input ps) (empty : Bool) (rest : List ℕ) → rest ≡ rest_after ps.list.items input
     → empty ≡ (length rest == 0) → empty ≡ true → a.last.rest ≡ []
 nothing_left types id input ps a empty rest e is some = sym (last_rest types id input ps a) ∙ (sym e ∙ none_of rest (grind (arith, nat_tests)))
+
+pub not_read_by_ber : (types : List «Type») (id : ℕ) (input : List ℕ) (r : Refusal) → IsOutOfMemory r.error.kind ⊎ IsLocated types Ber id input r
+    → IsOutOfMemory r.error.kind ⊎ IsCheckedUpTo Ber (shape_of types id) input (Err r.error) → IsNoLint types id input (Refused r)
+not_read_by_ber types id input r (inl m) x = inl m
+not_read_by_ber types id input r (inr at) (inl m) = inl m
+not_read_by_ber types id input r (inr at) (inr x) = inr (at, x)
 
 pub followed : (types : List «Type») (id : ℕ) (input rest : List ℕ) (ps : MessageParts) → ArePartsOf types Ber id input ps → rest ≡ rest_after ps.list.items input → rest ≢ [] → IsNoLint types id input (Remainder (length rest))
 followed types id input rest ps a e some =

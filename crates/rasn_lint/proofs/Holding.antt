@@ -36,7 +36,7 @@ use Rattle.rasn_schema.specs.FirstTags.{IsAlwaysThere}
 use Rattle.rasn_schema.proofs.Lists.{some_is}
 use Rattle.rasn_schema.proofs.OpenEnds.{among_not_unknown}
 use Rattle.rasn_dynamic.specs.declared.span.Span.{Span}
-use Rattle.rasn_dynamic.specs.Listed.{GoesInside, InTurn, UnknownListed, PartListed, ComponentListed, ComponentAt, ComponentsListed, MemberListed, AlternativeListed, ValueListed, PartsInside, Inside}
+use Rattle.rasn_dynamic.specs.Listed.{depth_at, GoesInside, InTurn, UnknownListed, PartListed, ComponentListed, ComponentAt, ComponentsListed, MemberListed, AlternativeListed, ValueListed, PartsInside, Inside}
 use Rattle.rasn_dynamic.specs.Sets.{is_extensible, named_components, last_type, AreLawfulMembers, PassesUnknown}
 use Rattle.rasn_dynamic.specs.Calls.{is_required, any_required}
 use Rattle.rasn_dynamic.specs.SameParts.{AreReadableTypes}
@@ -105,7 +105,7 @@ module _ (rule : Codec) (f : ℕ → Shape) (H : ℕ → Tree → List Span → 
 -- The parts are those of the tree of a value of the type with the number, types followed so many levels deep.
 unfoldable pub Holds : Codec → List «Type» → ℕ → ℕ → Tree → List Span → Type 0
 Holds rule types zero id t es = ⊥
-Holds rule types (suc n) id t es = (e : Span) × (inside : List Span) × (es ≡ e ∷ inside) × (e.id.0 ≡ id) × (e.levels ≡ suc n) × (ty : «Type») × (slice_get types id ≡ Some ty)
+Holds rule types (suc n) id t es = (e : Span) × (inside : List Span) × (es ≡ e ∷ inside) × (e.id.0 ≡ id) × (e.depth ≡ depth_at (suc n)) × (ty : «Type») × (slice_get types id ≡ Some ty)
     × HoldsInside rule (shape_of_type types n) (λ k u more. Holds rule types n k u more) ty e t inside
 
 -- ---- one after the other, from the first on
@@ -319,7 +319,7 @@ not_found (Some tag) e = cc
 
 module _ (rule : Codec) (f : ℕ → Shape) (readable : (k : ℕ) → IsReadable (f k)) (levels : ℕ) (P : ℕ → ℕ → State → List Span → Type 0) (H : ℕ → Tree → List Span → Type 0)
     (below : (id k b : ℕ) (s next : State) (es : List Span) → PartListed f levels P id k b s next es → (c : Bool) (t : Tree) (rest : List ℕ) → AreOctets s.rest → Reads rule (f id) s.depth c s.rest t rest → H id t es)
-    (alone : (other : ℕ) → is_unknown (f other) ≡ true → (e : Span) → e.id.0 ≡ other → e.levels ≡ levels
+    (alone : (other : ℕ) → is_unknown (f other) ≡ true → (e : Span) → e.id.0 ≡ other → e.depth ≡ depth_at levels
     → CompleteEncoding Ber e.octets.now → H other (items (numbers e.octets.now ∷ [])) (e ∷ [])) where
   part_held : (id k b : ℕ) (s next : State) (es : List Span) (depth : ℕ) (c : Bool) (input : List ℕ) (t : Tree) (rest : List ℕ)
       → PartListed f levels P id k b s next es → At s depth input → Reads rule (f id) depth c input t rest → H id t es × At next depth rest
@@ -601,7 +601,7 @@ module _ (rule : Codec) (types : List «Type») (readable : AreReadableTypes typ
       → (c : Bool) (t : Tree) (rest : List ℕ) → AreOctets s.rest → Reads rule (shape_of_type types n id) s.depth c s.rest t rest → Holds rule types n id t es
 
   -- An unknown component of a SET.
-  one_held : (n other : ℕ) → is_unknown (shape_of_type types n other) ≡ true → (e : Span) → e.id.0 ≡ other → e.levels ≡ n
+  one_held : (n other : ℕ) → is_unknown (shape_of_type types n other) ≡ true → (e : Span) → e.id.0 ≡ other → e.depth ≡ depth_at n
       → CompleteEncoding Ber e.octets.now → Holds rule types n other (items (numbers e.octets.now ∷ [])) (e ∷ [])
   unfolding Holds shape_of_type
   one_held zero other at_other e i deep w = absurd (not_found (looked_for (tag_at types other)) at_other)

@@ -25,7 +25,7 @@ use Rattle.rasn_dynamic.specs.declared.span.Span.{Span}
 use Rattle.rasn_dynamic.specs.Entry.{shape_of}
 use Rattle.rasn_dynamic.specs.Faults.{start}
 use Rattle.rasn_dynamic.specs.Listed.{PartListed, PartsInside, Inside}
-use Rattle.rasn_dynamic.specs.Walk.{ArePartsOf, IsPlaced, depth_of, path_at_depth, path_after}
+use Rattle.rasn_dynamic.specs.Walk.{ArePartsOf, IsPlaced, path_at_depth, path_after}
 use Rattle.rasn_lint.specs.declared.by_schema.OpenTypes.TheVariants.{Unexamined}
 use Rattle.rasn_lint.specs.declared.departure.Departure.{Departure}
 use Rattle.rasn_lint.specs.declared.departure.Aspect.TheVariants.{Header}
@@ -76,7 +76,7 @@ module _ (names : Vec NamedNumber Global) (shape_is : shape_of (a_boolean names)
     is = a.list;
     id_is = a.id;
     index = a.index;
-    deep = a.levels;
+    deep = a.depth;
     left = a.left;
     octets = ap (λ l. l ++ []) (sym a.octets);
     tree = number (pos 1);
@@ -103,8 +103,8 @@ module _ (names : Vec NamedNumber Global) (shape_is : shape_of (a_boolean names)
 
   -- ---- what departs
 
-  outermost : depth_of e ≡ 0
-  outermost = let n = a.levels in omega (arith, n)
+  outermost : e.depth ≡ 0
+  outermost = a.depth
 
   no_holder : holder_in [] e ≡ None
   no_holder = ap (λ n. step_before n []) outermost

@@ -1,6 +1,6 @@
 -- An unknown component of a SET, worked out by hand.
 use Rattle.std.specs.Prelude.{slice_get}
-use Rattle.std.proofs.Common.{◌≡◌, ◌-◌, inl, inr, ℕ, suc, pos, List, [], ◌∷◌, ◌++◌, take, true, false, Option, Some, None, Result, Ok, refl, sym, ap, ◌∙◌, subst, arith}
+use Rattle.std.proofs.Common.{◌≡◌, inl, inr, ℕ, suc, pos, List, [], ◌∷◌, ◌++◌, take, true, false, Option, Some, None, Result, Ok, refl, sym, ap, ◌∙◌, subst, arith}
 use Rattle.rasn_types.specs.declared.types.codec.Codec.{Codec}
 use Rattle.rasn_types.specs.declared.types.codec.Codec.TheVariants.{Ber, Cer, Der}
 use Rattle.rasn_types.specs.declared.types.tag.Class.TheVariants.{Universal}
@@ -30,7 +30,6 @@ use Rattle.rasn_dynamic.specs.Entry.{shape_of}
 use Rattle.rasn_dynamic.specs.Faults.{start}
 use Rattle.rasn_dynamic.specs.SameParts.{AreReadableTypes}
 use Rattle.rasn_dynamic.specs.Sets.{is_extensible, last_type}
-use Rattle.rasn_dynamic.specs.Walk.{depth_of}
 use Rattle.rasn_lint.specs.declared.by_schema.OpenTypes.TheVariants.{Examined}
 use Rattle.rasn_lint.specs.declared.trail.Step.{Step}
 use Rattle.rasn_lint.specs.declared.place.Order.TheVariants.{ByTag}
@@ -258,19 +257,19 @@ module _ (types : List «Type») (o : AreOfSet types) where
 
     trail_is : trail ≡ step_of outer ∷ step_of first ∷ []
     trail_is =
-        let a : depth_of outer ≡ 0 = let n = are.outermost in omega (arith, n) in
-        let b : depth_of first ≡ 1 = let n = are.first_inside in omega (arith, n) in
-        ap (λ n. take (depth_of first) (take n [] ++ step_of outer ∷ []) ++ step_of first ∷ []) a
+        let a : outer.depth ≡ 0 = are.outermost in
+        let b : first.depth ≡ 1 = are.first_inside in
+        ap (λ n. take first.depth (take n [] ++ step_of outer ∷ []) ++ step_of first ∷ []) a
         ∙ ap (λ n. take n (step_of outer ∷ []) ++ step_of first ∷ []) b
 
     abbrev IsFaultAfter : List Step → ℕ → Option DecodeError → Type 0
     IsFaultAfter t n f = IsOrderFault (order_if (type_of types (step_before n t))) second.octets.now (slice_get t n) f
 
     -- The order is that of tags, and the first component is the one before.
-    by_tag : (f : Option DecodeError) → IsFaultAfter trail (depth_of second) f
+    by_tag : (f : Option DecodeError) → IsFaultAfter trail second.depth f
         → IsOrderFault ByTag second.octets.now (Some (step_of first)) f
     by_tag f h =
-        let d : depth_of second ≡ 1 = let n = are.second_inside in omega (arith, n) in
+        let d : second.depth ≡ 1 = are.second_inside in
         let own = subst (λ t. IsFaultAfter t 1 f) trail_is (subst (λ n. IsFaultAfter trail n f) d h) in
         subst (λ t. IsOrderFault (order_if t) second.octets.now (Some (step_of first)) f)
         (ap (slice_get types) are.id ∙ set_at) own

@@ -13,9 +13,9 @@ use Rattle.rasn_schema.specs.declared.types.«Type».TheVariants.{Any, Unknown}
 use Rattle.rasn_dynamic.specs.declared.span.Span.{Span}
 use Rattle.rasn_dynamic.specs.declared.message.MessageParts.{MessageParts}
 use Rattle.rasn_dynamic.specs.declared.refusal.Refusal.{Refusal}
-use Rattle.rasn_dynamic.specs.Entry.{shape_of}
+use Rattle.rasn_dynamic.specs.Entry.{IsCheckedUpTo, shape_of}
 use Rattle.rasn_dynamic.specs.Faults.{IsLocated}
-use Rattle.rasn_dynamic.specs.Walk.{ArePartsOf, path_after}
+use Rattle.rasn_dynamic.specs.Walk.{AreParts, ArePartsOf, path_after}
 use Rattle.rasn_lint.specs.declared.by_schema.LintError.{LintError}
 use Rattle.rasn_lint.specs.declared.by_schema.LintError.TheVariants.{Refused, Remainder, OutOfMemory}
 use Rattle.rasn_lint.specs.declared.by_schema.OpenTypes.{OpenTypes}
@@ -93,15 +93,14 @@ pub record IsLint (opens : OpenTypes) (types : List «Type») (id : ℕ) (input 
 
 -- BER doesn't read the message, or memory ran out; or octets follow the value that BER reads.
 abbrev pub IsNoLint : List «Type» → ℕ → List ℕ → LintError → Type 0
-IsNoLint types id input (Refused r) = IsOutOfMemory r.error.kind ⊎ IsLocated types Ber id input r
+IsNoLint types id input (Refused r) = IsOutOfMemory r.error.kind ⊎ (IsLocated types Ber id input r × IsCheckedUpTo Ber (shape_of types id) input (Err r.error))
 IsNoLint types id input (Remainder n) = (t : Tree) × (rest : List ℕ) × Reads Ber (shape_of types id) 128 (top Ber) input t rest × (length rest ≡ n) × (rest ≢ [])
 IsNoLint types id input OutOfMemory = Unit {0}
 
 -- What is looked into, if DER reads the message: the parts of that reading.
 abbrev pub AreLookedInto : OpenTypes → List «Type» → ℕ → List ℕ → (List Span → Type 0) → Type 0
 AreLookedInto Unexamined types id input P = Unit {0}
-AreLookedInto Examined types id input P =
-    (parts : MessageParts) × ArePartsOf types Der id input parts × P parts.list.items
+AreLookedInto Examined types id input P = (parts : List Span) × AreParts types Der id input [] parts × P parts
 
 -- The octets of the part's open type aren't well formed, and the departure is inside them; or the part is unknown values of
 -- which one isn't.

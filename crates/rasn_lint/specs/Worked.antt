@@ -1,5 +1,5 @@
 -- Facts about departures that were worked out by hand, and what is none.
-use Rattle.std.specs.Prelude.{◌≡◌, ◌-◌, ◌^◌, ℕ, List, [], ◌∷◌, true, false, Some, None, Vec}
+use Rattle.std.specs.Prelude.{◌≡◌, ℕ, List, [], ◌∷◌, true, false, Some, None, Vec}
 use Rattle.std.specs.Global.{Global}
 use Rattle.rasn_types.specs.declared.types.constraints.Constraints.{Constraints}
 use Rattle.rasn_types.specs.declared.error.decode.DerDecodeErrorKind.TheVariants.{ConstructedBitMismatch, ConstructedEncodingNotAllowed, NonMinimalArc, SetOfOutOfOrder}
@@ -69,7 +69,7 @@ pub record WorkedDepartures : Type 0 where
   pub cut_arc_is_not_padded : arcs_error (42 ∷ 131 ∷ []) ≡ der_error NonMinimalArc → ⊥
   pub at_its_indices : (d : Departure) (v : Vec ℕ Global) → d.inner ≡ Some v → v.items ≡ 0 ∷ [] → HasOne (0 ∷ []) d.aspect (d ∷ [])
   pub not_at_others : (d : Departure) (v : Vec ℕ Global) → d.inner ≡ Some v → v.items ≡ 0 ∷ [] → HasOne (1 ∷ []) d.aspect (d ∷ []) → ⊥
-  pub trail_of_the_next_part : (whole first second : Span) → whole.levels ≡ 2 ^ 64 - 1 → first.levels ≡ 2 ^ 64 - 2 → second.levels ≡ 2 ^ 64 - 2
+  pub trail_of_the_next_part : (whole first second : Span) → whole.depth ≡ 0 → first.depth ≡ 1 → second.depth ≡ 1
       → trail_after (trail_after (trail_after [] whole) first) second ≡ step_of whole ∷ step_of second ∷ []
   pub nothing_without_an_error : (site : Site) → AreNoted site Header None []
   pub not_one_without_an_error : (site : Site) (d : Departure) → AreNoted site Header None (d ∷ []) → ⊥

@@ -39,7 +39,7 @@ pub record IsLongAlone (ps : MessageParts) (e : Span) : Type 0 where
   pub path : ps.path.items ≡ []
   pub id : e.id.0 ≡ 0
   pub index : e.index ≡ 0
-  pub levels : e.levels ≡ 18446744073709551615
+  pub depth : e.depth ≡ 0
   pub left : e.left ≡ 4
   pub octets : e.octets.now ≡ long_true
 

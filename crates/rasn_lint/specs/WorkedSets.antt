@@ -1,5 +1,5 @@
 -- Facts about an unknown component of a SET (X.680 27) that were worked out by hand: a NULL beside a BOOLEAN.
-use Rattle.std.specs.Prelude.{◌≡◌, ◌-◌, ◌^◌, ℕ, List, [], ◌∷◌, Option, Some, None, String, Vec}
+use Rattle.std.specs.Prelude.{◌≡◌, ℕ, List, [], ◌∷◌, Option, Some, None, String, Vec}
 use Rattle.std.specs.Global.{Global}
 use Rattle.rasn_types.specs.declared.error.decode.DecodeError.{DecodeError}
 use Rattle.rasn_types.specs.declared.error.decode.DerDecodeErrorKind.TheVariants.{SetComponentsOutOfOrder}
@@ -53,9 +53,9 @@ true_and_ill_null = 49 ∷ 6 ∷ 1 ∷ 1 ∷ 255 ∷ 5 ∷ 1 ∷ 0 ∷ []
 -- One component of the SET follows the other in the list of parts.
 pub record AreInSet (set first second : Span) : Type 0 where
   pub id : set.id.0 ≡ 0
-  pub outermost : set.levels ≡ 2 ^ 64 - 1
-  pub first_inside : first.levels ≡ 2 ^ 64 - 2
-  pub second_inside : second.levels ≡ 2 ^ 64 - 2
+  pub outermost : set.depth ≡ 0
+  pub first_inside : first.depth ≡ 1
+  pub second_inside : second.depth ≡ 1
 
 -- The second of them has this error of its place, or none.
 abbrev pub HasPlaceError : List «Type» → Span → Span → Span → Option DecodeError → Type 0

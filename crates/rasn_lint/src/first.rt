@@ -11,7 +11,7 @@ use crate::departure::Departure;
 use crate::judge::Way;
 use crate::open::{Wanted, note_open};
 use crate::trail::extend_path;
-use rasn_dynamic::{Refusal, Span, parts_of};
+use rasn_dynamic::{Refusal, Span, open_parts_of, parts_of};
 use rasn_schema::{Schema, TypeId, type_at};
 use rasn_types::error::{DecodeError, DecodeErrorKind};
 use rasn_types::types::Codec;
@@ -82,7 +82,30 @@ fn first_typed(
     }
 }
 
-/// Returns the same or, if DER reads the octets, the first departure inside an open type.
+/// Returns the same or, if DER reads the octets, the first departure inside an open type. All parts
+/// of the message are listed.
+fn first_listed(
+    alloc: Global,
+    schema: &Schema,
+    id: TypeId,
+    octets: &[u8],
+) -> Result<Option<Departure>, AllocError>
+    ensures { IfOk result (IsFirstDeparture Examined schema.now.types.items id.0 octets.now) }
+{
+    // DER has read the octets before, so memory alone can be missing.
+    let Ok(parts) = parts_of(alloc, Codec::Der, schema, id, octets) else {
+        return Err(AllocError);
+    };
+    let all = parts.list.as_slice();
+    let rest = rest_after(all, octets);
+    if let Some(refusal) = remainder_refusal(alloc, id, octets, rest) {
+        return Ok(Some(departure_of(refusal)));
+    }
+    first_inside(alloc, schema, octets.len(), all)
+}
+
+/// Returns the same. Only values of open types and unknown values are listed, unless one of them
+/// isn't well formed: then the others are listed too, since they lead to it.
 fn first_examined(
     alloc: Global,
     schema: &Schema,
@@ -91,19 +114,21 @@ fn first_examined(
 ) -> Result<Option<Departure>, AllocError>
     ensures { IfOk result (IsFirstDeparture Examined schema.now.types.items id.0 octets.now) }
 {
-    let Ok(parts) = parts_of(alloc, Codec::Der, schema, id, octets) else {
-        return match first_typed(alloc, schema, id, octets)? {
-            Some(departure) => Ok(Some(departure)),
-            // Only memory for the list of the parts was missing.
-            None => Err(AllocError),
-        };
+    let parts = match open_parts_of(alloc, Codec::Der, schema, id, octets) {
+        Ok(parts) => parts,
+        Err(refusal) => return if refusal.error.is_out_of_memory() {
+            Err(AllocError)
+        } else {
+            Ok(Some(departure_of(refusal)))
+        },
     };
-    let all = parts.list.as_slice();
-    let rest = rest_after(all, octets);
-    if let Some(refusal) = remainder_refusal(alloc, id, octets, rest) {
+    if let Some(refusal) = remainder_refusal(alloc, id, octets, parts.rest) {
         return Ok(Some(departure_of(refusal)));
     }
-    first_inside(alloc, schema, octets.len(), all)
+    match first_inside(alloc, schema, octets.len(), parts.list.as_slice())? {
+        Some(_) => first_listed(alloc, schema, id, octets),
+        None => Ok(None),
+    }
 }
 
 /// Returns the first departure of a message, if there is one.

@@ -1,6 +1,6 @@
 //! The parts on the way to a part.
 ghost use Rattle.std.specs.Prelude.{◌≡◌, OnOk, slice_get};
-ghost use Rattle.rasn_dynamic.specs.Walk.{depth_of, path_at_depth, path_after};
+ghost use Rattle.rasn_dynamic.specs.Walk.{path_at_depth, path_after};
 ghost use Rattle.rasn_lint.specs.Trail.{trail_after, step_before, holder_in, before_in};
 
 use rasn_dynamic::Span;
@@ -18,13 +18,6 @@ pub struct Step<'input> {
     pub octets: &'input [u8],
 }
 
-/// Returns in how many others a part is.
-fn depth_of(part: &Span<'_>) -> usize
-    ensures { result ≡ depth_of part.now }
-{
-    usize::MAX - part.levels
-}
-
 /// Moves the trail to a part.
 pub fn extend_trail<'input>(
     trail: &mut Vec<Step<'input>>,
@@ -32,7 +25,7 @@ pub fn extend_trail<'input>(
 ) -> Result<(), AllocError>
     ensures { OnOk result (trail.new.items ≡ trail_after trail.old.items part.now) }
 {
-    trail.truncate(depth_of(part));
+    trail.truncate(part.depth);
     trail.push(Step {
         id: part.id,
         index: part.index,
@@ -58,7 +51,7 @@ pub fn go_along(path: &mut Vec<usize>, depth: usize, index: usize) -> Result<(),
 pub fn extend_path(path: &mut Vec<usize>, part: &Span<'_>) -> Result<(), AllocError>
     ensures { OnOk result (path.new.items ≡ path_after path.old.items part.now) }
 {
-    go_along(path, depth_of(part), part.index)
+    go_along(path, part.depth, part.index)
 }
 
 fn step_at<'input>(trail: &[Step<'input>], place: usize) -> Option<Step<'input>>
@@ -71,16 +64,15 @@ fn step_at<'input>(trail: &[Step<'input>], place: usize) -> Option<Step<'input>>
 pub fn holder_of<'input>(trail: &[Step<'input>], part: &Span<'input>) -> Option<Step<'input>>
     ensures { result ≡ holder_in trail.now part.now }
 {
-    let depth = depth_of(part);
-    if depth == 0 {
+    if part.depth == 0 {
         return None;
     }
-    step_at(trail, depth - 1)
+    step_at(trail, part.depth - 1)
 }
 
 /// Returns the part before this one in the part that holds both.
 pub fn before<'input>(trail: &[Step<'input>], part: &Span<'input>) -> Option<Step<'input>>
     ensures { result ≡ before_in trail.now part.now }
 {
-    step_at(trail, depth_of(part))
+    step_at(trail, part.depth)
 }

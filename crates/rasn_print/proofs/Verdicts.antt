@@ -6,7 +6,7 @@ use Rattle.rasn_lint.specs.declared.departure.Departure.{Departure}
 use Rattle.rasn_lint.specs.Lint.{IsFirstDeparture}
 use Rattle.rasn_print.specs.declared.types.MessageType.{MessageType}
 use Rattle.rasn_print.specs.declared.work.Answer.{Answer}
-use Rattle.rasn_print.specs.declared.work.Answer.TheVariants.{Done, Departures, Refused}
+use Rattle.rasn_print.specs.declared.work.Answer.TheVariants.{Done, Large, Departures, Refused}
 use Rattle.rasn_print.specs.Verdicts.{IsDerVerdict, IsRefusal}
 
 -- The first departure of a message, if memory didn't run out for it.
@@ -20,5 +20,6 @@ found o opens m octets d same not (inr first) = (d, subst (λ z. IsFirstDepartur
 pub refuses : (opens : OpenTypes) (m : MessageType) (octets : List ℕ) → ((d : Departure) × IsFirstDeparture opens m.schema.now.types.items m.root.0 octets (Some d))
     → (a : Answer) → IsRefusal a → IsDerVerdict opens m octets a
 refuses opens m octets at (Done text) h = absurd h
+refuses opens m octets at (Large shown) h = absurd h
 refuses opens m octets at (Departures reasons) h = absurd h
 refuses opens m octets at (Refused reason) h = at

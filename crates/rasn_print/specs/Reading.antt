@@ -22,11 +22,13 @@ abbrev pub IsFollowed : MessageType → List ℕ → Refusal → Type 0
 IsFollowed m octets r = (tree : Tree) × (rest : List ℕ) × IsRead m octets tree rest × IsExtraData m.rule rest r.error
     × (r.offset ≡ length octets - length rest)
 
--- The octets aren't the encoding of a value of the type: the refusal is at a value that can't be read, or at what
--- follows one.
+-- The refusal is at a value that can't be read, or at what follows one.
+abbrev pub IsAtFault : MessageType → List ℕ → Refusal → Type 0
+IsAtFault m octets r = IsLocated m.schema.now.types.items m.rule m.root.0 octets r ⊎ IsFollowed m octets r
+
+-- The octets aren't the encoding of a value of the type, for that.
 abbrev pub IsNoMessage : MessageType → List ℕ → Refusal → Type 0
-IsNoMessage m octets r = (IsMessage m octets → ⊥)
-    × (IsLocated m.schema.now.types.items m.rule m.root.0 octets r ⊎ IsFollowed m octets r)
+IsNoMessage m octets r = (IsMessage m octets → ⊥) × IsAtFault m octets r
 
 -- Unless an allocation failed, the octets are refused for that.
 abbrev pub IsRefused : MessageType → List ℕ → Refusal → Type 0

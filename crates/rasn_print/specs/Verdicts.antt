@@ -6,7 +6,7 @@ use Rattle.rasn_lint.specs.declared.departure.Departure.{Departure}
 use Rattle.rasn_lint.specs.Lint.{IsFirstDeparture}
 use Rattle.rasn_print.specs.declared.types.MessageType.{MessageType}
 use Rattle.rasn_print.specs.declared.work.Answer.{Answer}
-use Rattle.rasn_print.specs.declared.work.Answer.TheVariants.{Done, Departures, Refused}
+use Rattle.rasn_print.specs.declared.work.Answer.TheVariants.{Done, Large, Departures, Refused}
 use Rattle.rasn_print.specs.Reading.{IsMessage}
 
 -- Open types are looked into as the call says, unless the type holds none.
@@ -17,17 +17,20 @@ opens_of false opens = Unexamined
 -- Nothing is said of octets that the rules of the type read as a value of it; others are refused.
 abbrev pub IsVerdict : MessageType → List ℕ → Answer → Type 0
 IsVerdict m octets (Done text) = IsMessage m octets
+IsVerdict m octets (Large shown) = ⊥
 IsVerdict m octets (Departures reasons) = ⊥
 IsVerdict m octets (Refused reason) = IsMessage m octets → ⊥
 
 -- The same under DER, where also what is inside open types has to be DER if they are looked into.
 abbrev pub IsDerVerdict : OpenTypes → MessageType → List ℕ → Answer → Type 0
 IsDerVerdict opens m octets (Done text) = IsFirstDeparture opens m.schema.now.types.items m.root.0 octets None
+IsDerVerdict opens m octets (Large shown) = ⊥
 IsDerVerdict opens m octets (Departures reasons) = ⊥
 IsDerVerdict opens m octets (Refused reason) = (d : Departure) × IsFirstDeparture opens m.schema.now.types.items m.root.0 octets (Some d)
 
 -- The answer refuses.
 abbrev pub IsRefusal : Answer → Type 0
 IsRefusal (Done text) = ⊥
+IsRefusal (Large shown) = ⊥
 IsRefusal (Departures reasons) = ⊥
 IsRefusal (Refused reason) = Unit {0}

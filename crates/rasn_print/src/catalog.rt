@@ -1,24 +1,30 @@
-//! The types that are known.
+//! The types that messages may be of, each resolved once one may be of it.
+ghost use Rattle.std.specs.Prelude.{◌≡◌, ◌<◌, [], Some, IfOk, IfSome, length, slice_get};
+ghost use Rattle.rasn_print.specs.declared.command_line.Work.TheVariants.{Dump};
+ghost use Rattle.rasn_print.specs.declared.known.Candidates.TheVariants.{Named, Nothing};
+ghost use Rattle.rasn_print.specs.Catalogs.{IsIndexOf};
 
-use crate::command_line::Call;
-use crate::fault::Fault;
-use crate::known::Known;
-use crate::messages::MESSAGES;
+use crate::command_line::{Call, Work};
+use crate::fault::CallFault;
+use crate::known::{Candidates, Known};
+use crate::listing::types_by_origin;
+use crate::messages::{MESSAGES, labelled};
 use crate::similar::most_similar;
-use crate::standards::{COUNT, standard};
-use crate::types::MessageType;
+use crate::texts::Texts;
+use crate::types::KnownType;
 use crate::unused::unused_types;
-use crate::work::printed;
-use rasn_compiler::{Library, Modules, Root, Source, Stop, TypeRef, Unresolved};
+use rasn_compiler::{Fault, Library, Modules, NamedIdentifier, Root, Source, TypeRef};
 use rasn_schema::TypeId;
 use rasn_text::{Escaping, visible};
-use rasn_types::types::Codec;
+use rasn_types::types::ObjectIdentifier;
 use std::alloc::{AllocError, Global};
 use std::collections::BTreeMap;
-use std::io::Write;
 
 /// The name of the module of what is in open types.
-const CONTENTS: &str = "Contents";
+pub(crate) const CONTENTS: &str = "Contents";
+
+/// Its type of values of universal types.
+const UNIVERSAL: &str = "Universal";
 
 /// Limits how many types of `--module` are tried.
 const MOST_TRIED: usize = 100;
@@ -31,94 +37,314 @@ const MOST_TRIED: usize = 100;
 pub fn modules_of<'text>(
     alloc: Global,
     texts: &[Source<'text>],
-) -> Result<(Modules<'text>, String), Fault> {
-    let own = texts.len();
-    let mut sources = Vec::from_slice(alloc, texts)?;
-    for number in 0..COUNT {
-        if let Some((name, text)) = standard(number) {
-            sources.push(Source { name, text })?;
-        }
-    }
-    let read = Modules::parse_with_built_in(alloc, sources.as_slice(), own)?;
-    let mut faults = String::new(alloc);
-    for fault in &read.faults {
-        let line = visible(alloc, Escaping::Line, fault.to_string(alloc)?.as_str())?;
-        writeln!(faults, "{line}")?;
-    }
+) -> Result<(Modules<'text>, String), CallFault> {
+    let read = Texts::ALL.modules(alloc, texts)?;
+    let faults = lines_of(alloc, &read.faults)?;
     Ok((read, faults))
 }
 
-/// The types of a call by their names, and those that have no schema.
-#[derive(Drop)]
-pub struct Catalog<'text> {
-    roots: Vec<Root<'text>>,
-    faults: Vec<Unresolved<'text>>,
-}
-
-impl<'text> Catalog<'text> {
-    /// Returns a type of the modules, if it is one of a call and has a schema.
-    fn root_of(&self, of: TypeRef<'_>) -> Option<&Root<'text>> {
-        let mut roots = self.roots.iter();
-        roots.find(|root| root.index == of.module && root.name == of.name)
-    }
-
-    /// Returns why a type of the modules has no schema.
-    fn fault_of(&self, of: TypeRef<'_>) -> Option<&Unresolved<'text>> {
-        let mut faults = self.faults.iter();
-        faults.find(|found| found.index == of.module && found.name == of.name)
-    }
-
-    /// Returns the type of this name of a built-in module, if it is one of a call.
-    fn built_in(&self, read: &Modules<'_>, module: &str, name: &str) -> Option<&Root<'text>> {
-        self.root_of(read.built_in(module, name)?)
-    }
-
-    /// Returns the number of the type of this name of the module of what is in open types.
-    fn contents(&self, read: &Modules<'_>, name: &str) -> Option<TypeId> {
-        Some(self.built_in(read, CONTENTS, name)?.type_id)
-    }
-}
-
-/// Returns the types of messages that a call may read: the one that it names; or those of modules
-/// that aren't built in that no other type of these uses, at most 100, and those of standards.
+/// Returns what is wrong in modules that aren't built in and spoils none of their types, a line each.
 ///
 /// # Errors
-/// `Call` if the type isn't known.
-pub fn types_for<'text>(
+/// `Memory` if memory runs out.
+pub fn warnings_of(alloc: Global, read: &Modules<'_>) -> Result<String, CallFault> {
+    lines_of(alloc, &read.warnings(alloc)?)
+}
+
+/// Returns a line for each fault.
+fn lines_of(alloc: Global, faults: &[Fault<'_>]) -> Result<String, CallFault> {
+    let mut lines = String::new(alloc);
+    for fault in faults {
+        let line = visible(alloc, Escaping::Line, fault.to_string(alloc)?.as_str())?;
+        writeln!(lines, "{line}")?;
+    }
+    Ok(lines)
+}
+
+/// The types of a call that were resolved so far.
+#[derive(Drop)]
+pub struct Catalog<'read, 'text> {
+    /// The modules that the call names and those of this repository, if it names some.
+    read: Option<&'read Modules<'text>>,
+    known: Vec<Known<'text>>,
+}
+
+impl<'read, 'text> Catalog<'read, 'text> {
+    /// Returns a catalog of the types of these modules, or without them of those of this repository,
+    /// which are read when a message may be of them.
+    pub fn new(alloc: Global, read: Option<&'read Modules<'text>>) -> Catalog<'read, 'text>
+        ensures { result.known.items ≡ [] }
+    {
+        Catalog {
+            read,
+            known: Vec::new(alloc),
+        }
+    }
+
+    /// Resolves the type that a call names, if it names one.
+    ///
+    /// # Errors
+    /// `Call` if it isn't known, or has no schema. `Memory` if memory runs out.
+    pub fn resolve_named(&mut self, alloc: Global, call: &Call) -> Result<(), CallFault> {
+        if call.type_name.is_some() {
+            self.resolve(alloc, call, Candidates::Named)?;
+        }
+        Ok(())
+    }
+
+    /// Returns whether it is worth while to try the first of these types alone: all are tried, those
+    /// of this repository alone, and aren't resolved yet.
+    pub(crate) fn may_try_first(&self, candidates: Candidates) -> bool {
+        self.read.is_none()
+            && candidates == Candidates::Tried
+            && self.index_of(candidates).is_none()
+    }
+
+    /// Returns the index of these types of a call, which are resolved if they weren't.
+    ///
+    /// # Errors
+    /// As `resolve_named`.
+    pub(crate) fn resolve(
+        &mut self,
+        alloc: Global,
+        call: &Call,
+        candidates: Candidates,
+    ) -> Result<usize, CallFault>
+        ensures { IfOk result (IsIndexOf candidates self.new.known.items) }
+    {
+        if let Some(index) = self.index_of(candidates) {
+            return Ok(index);
+        }
+        let known = self.resolved(alloc, call, candidates)?;
+        let index = self.known.len();
+        self.known.push(known)?;
+        Ok(index)
+    }
+
+    /// Returns the types with this index.
+    pub(crate) fn known(&self, index: usize) -> &Known<'text>
+        requires { index < length self.now.known.items }
+        ensures { Some result.now ≡ slice_get self.now.known.items index }
+    {
+        &self.known[index]
+    }
+
+    /// Returns the index of these types, if they are resolved.
+    fn index_of(&self, candidates: Candidates) -> Option<usize>
+        ensures { IfSome result (IsIndexOf candidates self.now.known.items) }
+    {
+        for (index, known) in self.known.iter().enumerate() {
+            if known.candidates.is(candidates) {
+                return Some(index);
+            }
+        }
+        None
+    }
+
+    /// Resolves the types that a message may be of.
+    fn resolved(
+        &self,
+        alloc: Global,
+        call: &Call,
+        candidates: Candidates,
+    ) -> Result<Known<'text>, CallFault>
+        ensures { IfOk result (λ known. known.candidates ≡ candidates) }
+    {
+        let Some(read) = self.read else {
+            let read = modules_for(alloc, call, candidates)?;
+            let wanted = types_for(alloc, &read, call, candidates, false)?;
+            return known_of(alloc, &read, call, candidates, wanted);
+        };
+        let wanted = types_for(alloc, read, call, candidates, true)?;
+        known_of(alloc, read, call, candidates, wanted)
+    }
+}
+
+/// Returns what decides of which type a message of a call with this label is.
+pub(crate) fn candidates_for(call: &Call, label: Option<&str>) -> Candidates
+    ensures dumped { call.now.work ≡ Dump → result ≡ Nothing }
+    ensures named { (call.now.work ≡ Dump → ⊥) → (name : _) → call.now.type_name ≡ Some name → result ≡ Named }
+{
+    if call.work == Work::Dump {
+        return Candidates::Nothing;
+    }
+    if call.type_name.is_some() {
+        return Candidates::Named;
+    }
+    match labelled(label.unwrap_or("")) {
+        Some(index) => Candidates::Labelled(index),
+        None => Candidates::Tried,
+    }
+}
+
+/// Returns the modules of this repository that these types are of or are made of, or all if the
+/// type that the call names isn't one of them as it is written.
+fn modules_for<'text>(
+    alloc: Global,
+    call: &Call,
+    candidates: Candidates,
+) -> Result<Modules<'text>, AllocError> {
+    let read = texts_for(alloc, call, candidates)?.modules(alloc, &[])?;
+    match &call.type_name {
+        Some(name) if read.find(name).is_none() => Texts::ALL.modules(alloc, &[]),
+        _ => Ok(read),
+    }
+}
+
+/// Returns which texts of this repository have these types and what they are made of.
+fn texts_for(alloc: Global, call: &Call, candidates: Candidates) -> Result<Texts, AllocError> {
+    let mut texts = Texts::NONE;
+    if let (Candidates::Named, Some(name)) = (candidates, &call.type_name) {
+        texts.add_assigned(alloc, name)?;
+    }
+    for (index, (module, _, _, is_tried)) in MESSAGES.iter().enumerate() {
+        if candidates.have(index, *is_tried) {
+            texts.add_module(module);
+        }
+    }
+    match contents_for(call.work, candidates).len() {
+        0 => {}
+        // Values of universal types hold none of other modules.
+        1 => texts.add_alone(CONTENTS),
+        _ => texts.add_module(CONTENTS),
+    }
+    Ok(texts)
+}
+
+/// Returns the types of the module Contents by which such work shows what messages hold.
+fn contents_for(work: Work, candidates: Candidates) -> &'static [&'static str] {
+    match work {
+        Work::Show if candidates == Candidates::First => &[],
+        Work::Show => &[UNIVERSAL, "Open", "Octets", "Bits"],
+        Work::Dump | Work::Get | Work::Table => &[UNIVERSAL],
+        Work::Check
+        | Work::Lint
+        | Work::Json
+        | Work::Encode
+        | Work::Example
+        | Work::Normalise
+        | Work::Types => &[],
+    }
+}
+
+/// Returns these types of messages of a call in one schema with those by which what they hold is
+/// shown.
+fn known_of<'text>(
     alloc: Global,
     read: &Modules<'text>,
     call: &Call,
-) -> Result<Vec<TypeRef<'text>>, Fault> {
-    if let Some(name) = &call.type_name {
-        return Ok(vec![in alloc; named_type(alloc, read, name)?]?);
-    }
-    let mut types = own_types_tried(alloc, read)?;
-    for (module, name, _, _) in MESSAGES {
-        if let Some(of) = read.built_in(module, name) {
-            types.push(of)?;
+    candidates: Candidates,
+    wanted: Vec<TypeRef<'text>>,
+) -> Result<Known<'text>, CallFault>
+    ensures { IfOk result (λ known. known.candidates ≡ candidates) }
+{
+    let mut all = Vec::from_slice(alloc, wanted.as_slice())?;
+    for name in contents_for(call.work, candidates) {
+        if let Some(of) = read.built_in(CONTENTS, name) {
+            all.push(of)?;
         }
     }
-    Ok(types)
+    let library = read.library(alloc, all.as_slice())?;
+    let mut types = Vec::new(alloc);
+    for of in &wanted {
+        if let Some(root) = root_of(&library, *of) {
+            types.push(KnownType::new(alloc, &library.schema, root)?)?;
+        }
+    }
+    if candidates == Candidates::Named && types.is_empty() {
+        return Err(no_schema(alloc, &library));
+    }
+    let universal = contents(&library, read, UNIVERSAL);
+    let open = contents(&library, read, "Open");
+    let octets = contents(&library, read, "Octets");
+    let bits = contents(&library, read, "Bits");
+    let Library { schema, .. } = library;
+    Ok(Known {
+        schema,
+        candidates,
+        types,
+        universal,
+        open,
+        octets,
+        bits,
+        identifiers: own_identifiers(alloc, read)?,
+        is_cut: call.work == Work::Show && !call.is_full,
+    })
 }
 
-/// Returns the types that are tried of modules that aren't built in.
-fn own_types_tried<'text>(
+/// Returns the names of the identifiers of modules that aren't built in: the first of each.
+fn own_identifiers(
+    alloc: Global,
+    read: &Modules<'_>,
+) -> Result<BTreeMap<ObjectIdentifier, String>, AllocError> {
+    let mut names = BTreeMap::new(alloc);
+    for found in read.identifiers(alloc)? {
+        let NamedIdentifier {
+            name,
+            identifier,
+            ..
+        } = found;
+        if !names.contains_key(&identifier) {
+            names.insert(identifier, String::from_str(alloc, name)?)?;
+        }
+    }
+    Ok(names)
+}
+
+/// Returns a type of the modules, if it is one of the library.
+fn root_of<'a, 'text>(library: &'a Library<'text>, of: TypeRef<'_>) -> Option<&'a Root<'text>> {
+    let mut roots = library.roots.iter();
+    roots.find(|root| root.index == of.module && root.name == of.name)
+}
+
+/// Returns the number of the type of this name of the module of what is in open types.
+fn contents(library: &Library<'_>, read: &Modules<'_>, name: &str) -> Option<TypeId> {
+    Some(root_of(library, read.built_in(CONTENTS, name)?)?.type_id)
+}
+
+/// Returns why the type that a call names has no schema: it is the first of the library.
+fn no_schema(alloc: Global, library: &Library<'_>) -> CallFault {
+    match library.faults.first() {
+        Some(found) => CallFault::of_call(alloc, &found.fault),
+        None => CallFault::of_call(alloc, &"the type has no schema"),
+    }
+}
+
+/// Returns the types of these modules that a message of a call may be of: of those that aren't built
+/// in, if there are some, the types that no other of them uses, at most 100, and those of standards.
+fn types_for<'text>(
     alloc: Global,
     read: &Modules<'text>,
-) -> Result<Vec<TypeRef<'text>>, AllocError> {
-    let (own, _) = types_by_origin(alloc, read)?;
-    let mut types = unused_types(alloc, read, own.as_slice())?;
-    types.truncate(MOST_TRIED);
+    call: &Call,
+    candidates: Candidates,
+    has_own: bool,
+) -> Result<Vec<TypeRef<'text>>, CallFault> {
+    if let (Candidates::Named, Some(name)) = (candidates, &call.type_name) {
+        return Ok(vec![in alloc; named_type(alloc, read, name)?]?);
+    }
+    let mut types = Vec::new(alloc);
+    if has_own && candidates == Candidates::Tried {
+        let (own, _) = types_by_origin(alloc, read)?;
+        types = unused_types(alloc, read, own.as_slice())?;
+        types.truncate(MOST_TRIED);
+    }
+    for (index, (module, name, _, is_tried)) in MESSAGES.iter().enumerate() {
+        if candidates.have(index, *is_tried) {
+            if let Some(of) = read.built_in(module, name) {
+                types.push(of)?;
+            }
+        }
+    }
     Ok(types)
 }
 
 /// Returns the type with this name: `MODULE.TYPE`, or the first one of the name. Small letters may be
 /// capitals and the reverse if no type has the name as it is.
-fn named_type<'text>(
+pub(crate) fn named_type<'text>(
     alloc: Global,
     read: &Modules<'text>,
     name: &str,
-) -> Result<TypeRef<'text>, Fault> {
+) -> Result<TypeRef<'text>, CallFault> {
     if let Some(of) = read.find(name) {
         return Ok(of);
     }
@@ -132,208 +358,5 @@ fn named_type<'text>(
             "no type {name} is known; `soqavise types` prints those that are known"
         )?,
     };
-    Err(Fault::of_call(alloc, &text))
-}
-
-/// Returns the schema of these types of messages and of what is in open types.
-///
-/// # Errors
-/// `Memory` if memory runs out.
-pub fn known_of<'text>(
-    alloc: Global,
-    read: &Modules<'text>,
-    types: &[TypeRef<'text>],
-) -> Result<(Known, Catalog<'text>), Fault> {
-    let mut wanted = Vec::from_slice(alloc, types)?;
-    for name in ["Universal", "Open", "Octets", "Bits"] {
-        if let Some(of) = read.built_in(CONTENTS, name) {
-            wanted.push(of)?;
-        }
-    }
-    let Library {
-        schema,
-        roots,
-        faults,
-        ..
-    } = read.library(alloc, wanted.as_slice())?;
-    let catalog = Catalog { roots, faults };
-    let known = Known {
-        schema,
-        universal: catalog.contents(read, "Universal"),
-        open: catalog.contents(read, "Open"),
-        octets: catalog.contents(read, "Octets"),
-        bits: catalog.contents(read, "Bits"),
-    };
-    Ok((known, catalog))
-}
-
-/// Returns the types of messages of a call as [`types_for`] returns them, with the rules by which
-/// each is read.
-///
-/// # Errors
-/// `Call` if the type that the call names isn't known, or has no schema.
-pub fn message_types<'a, 'text>(
-    alloc: Global,
-    read: &Modules<'text>,
-    known: &'a Known,
-    catalog: &'a Catalog<'text>,
-    call: &Call,
-) -> Result<Vec<MessageType<'a>>, Fault> {
-    let (schema, rules) = (&known.schema, call.rules);
-    if let Some(name) = &call.type_name {
-        let root = named_root(alloc, read, catalog, name)?;
-        return Ok(vec![in alloc; MessageType::new(alloc, schema, root, rules)?]?);
-    }
-    let mut types = Vec::new(alloc);
-    for of in &own_types_tried(alloc, read)? {
-        if let Some(root) = catalog.root_of(*of) {
-            types.push(MessageType::new(alloc, schema, root, rules)?)?;
-        }
-    }
-    add_standard_types(&mut types, alloc, read, known, catalog, rules)?;
-    Ok(types)
-}
-
-/// Adds the types of messages of standards.
-fn add_standard_types<'a, 'text>(
-    types: &mut Vec<MessageType<'a>>,
-    alloc: Global,
-    read: &Modules<'text>,
-    known: &'a Known,
-    catalog: &'a Catalog<'text>,
-    rules: Option<Codec>,
-) -> Result<(), AllocError> {
-    for (module, name, labels, is_tried) in MESSAGES {
-        if let Some(root) = catalog.built_in(read, module, name) {
-            let of = MessageType::new(alloc, &known.schema, root, rules)?;
-            types.push(of.labelled(*labels, *is_tried))?;
-        }
-    }
-    Ok(())
-}
-
-/// Returns the type that has this name.
-fn named_root<'a, 'text>(
-    alloc: Global,
-    read: &Modules<'text>,
-    catalog: &'a Catalog<'text>,
-    name: &str,
-) -> Result<&'a Root<'text>, Fault> {
-    let of = named_type(alloc, read, name)?;
-    match (catalog.root_of(of), catalog.fault_of(of)) {
-        (Some(root), _) => Ok(root),
-        (None, Some(found)) => Err(Fault::of_call(alloc, &found.fault)),
-        (None, None) => Err(Fault::of_call(alloc, &"the type has no schema")),
-    }
-}
-
-/// Prints a type of the modules as a module, with the types that it is made of.
-///
-/// # Errors
-/// `Call` if it isn't known, or has no schema. `Write` if the output can't be written, `Closed` if
-/// its reader has gone, `Memory` if memory runs out.
-pub fn print_notation<W: Write>(
-    alloc: Global,
-    read: &Modules<'_>,
-    name: &str,
-    output: &mut W,
-) -> Result<(), Fault> {
-    let of = named_type(alloc, read, name)?;
-    let module = match read.modules.get(of.module) {
-        Some(module) => module.name,
-        None => "",
-    };
-    match read.schema(alloc, module, of.name) {
-        Ok(resolved) => {
-            let text = resolved.notation(alloc)?.to_string(alloc)?;
-            let text = printed(alloc, Escaping::Lines, text)?;
-            output.write_all(text.as_bytes()).map_err(Fault::of_write)
-        }
-        Err(Stop::Fault(fault)) => Err(Fault::of_call(alloc, &fault)),
-        Err(Stop::OutOfMemory) => Err(Fault::Memory),
-    }
-}
-
-/// Prints a line for each type of the modules, or of those that aren't built in if there are some:
-/// its name, the number of its constraints and contents that aren't checked, or why it has no
-/// schema. Of two modules of one name the first counts. Returns whether each has a schema.
-///
-/// # Errors
-/// `Write` if the output can't be written, `Closed` if its reader has gone, `Memory` if memory runs
-/// out.
-pub fn print_types<W: Write>(
-    alloc: Global,
-    read: &Modules<'_>,
-    output: &mut W,
-) -> Result<bool, Fault> {
-    let (own, built_in) = types_by_origin(alloc, read)?;
-    let types = if own.is_empty() { built_in } else { own };
-    let library = read.library(alloc, types.as_slice())?;
-    let (mut faults, mut roots) = (0usize, 0usize);
-    for of in &types {
-        let line = match (library.faults.get(faults), library.roots.get(roots)) {
-            (Some(found), _) if found.index == of.module && found.name == of.name => {
-                faults = faults.saturating_add(1);
-                format!(in alloc; "{}.{}: {}", found.module, found.name, found.fault)?
-            }
-            (_, Some(root)) => {
-                roots = roots.saturating_add(1);
-                root_line(alloc, &library, root)?
-            }
-            (_, None) => break,
-        };
-        let line = visible(alloc, Escaping::Line, line.as_str())?;
-        writeln!(output, "{line}").map_err(Fault::of_write)?;
-    }
-    Ok(library.faults.is_empty())
-}
-
-/// Returns the types of modules that aren't built in, and of all others but the module of what is in
-/// open types. Of two modules of one name the types of the first count.
-fn types_by_origin<'text>(
-    alloc: Global,
-    read: &Modules<'text>,
-) -> Result<(Vec<TypeRef<'text>>, Vec<TypeRef<'text>>), AllocError> {
-    let hidden = read.built_in(CONTENTS, "Universal").map(|of| of.module);
-    let mut first = BTreeMap::new(alloc);
-    for (index, module) in read.modules.iter().enumerate() {
-        if Some(index) != hidden && !first.contains_key(&module.name) {
-            first.insert(module.name, index)?;
-        }
-    }
-    let mut own = Vec::new(alloc);
-    let mut built_in = Vec::new(alloc);
-    for of in &read.types(alloc)? {
-        let Some(module) = read.modules.get(of.module) else {
-            continue;
-        };
-        if first.get(&module.name).copied() != Some(of.module) {
-            continue;
-        }
-        if is_built_in(read, module.name, *of) {
-            built_in.push(*of)?;
-        } else {
-            own.push(*of)?;
-        }
-    }
-    Ok((own, built_in))
-}
-
-/// Returns whether the module of this name that has a type is built in.
-fn is_built_in(read: &Modules<'_>, module: &str, of: TypeRef<'_>) -> bool {
-    match read.built_in(module, of.name) {
-        Some(built_in) => built_in.module == of.module,
-        None => false,
-    }
-}
-
-/// Returns the line of a type that has a schema.
-fn root_line(alloc: Global, library: &Library<'_>, root: &Root<'_>) -> Result<String, AllocError> {
-    let (module, name) = (root.module, root.name);
-    match library.unchecked(alloc, root.type_id)? {
-        0 => format!(in alloc; "{module}.{name}"),
-        count => format!(in alloc;
-            "{module}.{name}: constraints and contents that aren't checked: {count}"
-        ),
-    }
+    Err(CallFault::of_call(alloc, &text))
 }

@@ -1,4 +1,7 @@
 //! The command line.
+ghost use Rattle.std.specs.Prelude.{◌≡◌, Some, IfOk, IfSome};
+ghost use Rattle.clap.specs.Matches.{subcommand_name_of};
+ghost use Rattle.rasn_print.specs.Calls.{word_of};
 
 use clap::builder::ValueParser;
 use clap::{Arg, ArgAction, ArgMatches, Command};
@@ -20,16 +23,10 @@ pub enum Work {
     Normalise,
     Types,
     Dump,
-}
-
-impl Work {
-    /// Returns whether what is printed for messages is messages.
-    pub(crate) fn prints_data(self) -> bool {
-        match self {
-            Work::Json | Work::Encode | Work::Example | Work::Normalise => true,
-            Work::Show | Work::Check | Work::Lint | Work::Types | Work::Dump => false,
-        }
-    }
+    /// Prints the values of parts, a line for each.
+    Get,
+    /// Prints the values of parts, a line for each message.
+    Table,
 }
 
 /// The form in which messages are handed over.
@@ -58,26 +55,53 @@ pub struct Call {
     pub work: Work,
     /// The files of messages; none for standard input.
     pub files: Vec<String>,
+    /// The paths to the parts that are asked for.
+    pub paths: Vec<String>,
     /// The files of modules.
     pub modules: Vec<String>,
     /// The type, perhaps with its module before it.
     pub type_name: Option<String>,
-    pub rules: Option<Codec>,
+    pub rule: Option<Codec>,
     pub input: Option<InputForm>,
     /// Whether open types are looked into.
     pub open_types: OpenTypes,
     /// Whether `show` prints where each part begins.
     pub has_offsets: bool,
+    /// Whether `show` prints all of long octets.
+    pub is_full: bool,
     /// Whether each line is a message.
     pub has_lines: bool,
     /// Prints JSON in place of a line that is refused, which says why.
     pub has_json_errors: bool,
     /// Reads messages that follow one another, with nothing between them.
     pub is_stream: bool,
+    /// Whether what is shown, or the values of parts, are JSON.
+    pub has_json: bool,
+    /// Whether whole numbers of JSON that a double can't hold are strings.
+    pub has_exact_numbers: bool,
+    /// Whether `show` prints a page of HTML.
+    pub has_html: bool,
+    /// Whether the columns of a table have commas between them, and not tabs.
+    pub is_csv: bool,
     pub color: ColorChoice,
 }
 
 impl Call {
+    /// Returns whether what is printed for messages is messages, or values of them.
+    pub(crate) fn prints_data(&self) -> bool {
+        match self.work {
+            Work::Json | Work::Encode | Work::Example | Work::Normalise | Work::Get | Work::Table =>
+                true,
+            Work::Show => self.has_json,
+            Work::Check | Work::Lint | Work::Types | Work::Dump => false,
+        }
+    }
+
+    /// Returns whether each of several messages has its name before it.
+    pub(crate) fn has_headings(&self) -> bool {
+        self.work == Work::Show && !self.has_json && !self.has_html
+    }
+
     /// Returns how JSON is laid out: in one line if a line holds a message.
     pub(crate) fn layout(&self) -> Layout {
         if self.has_lines {
@@ -89,7 +113,24 @@ impl Call {
 }
 
 /// The help of `--rules` of all commands that read messages.
-const READ: &str = "The encoding rules by which messages are read";
+const READ: &str =
+    "The encoding rules by which messages are read (without it, BER for types of CMS, \
+    LDAP, PKCS12 and SNMP, DER for others)";
+
+/// The help of `--rules` of `encode`.
+const WRITTEN: &str = "The encoding rules by which messages are written (without it, BER for types \
+    of CMS, LDAP, PKCS12 and SNMP, DER for others)";
+
+/// The help of `--type` of all commands that read messages.
+const MESSAGES: &str =
+    "The type of the messages (without it, that of the label of PEM, or the first \
+    that reads a message)";
+
+/// What the exit status of the program says.
+const STATUSES: &str = "Exit status:\n  \
+    0: no message is refused\n  \
+    1: a message is refused or departs from DER, or a module of `types` or `generate` has a fault\n  \
+    2: the call is wrong, a type isn't known or has a fault, or a file can't be read or written";
 
 /// Returns the program's command: its subcommands, options and help.
 ///
@@ -100,6 +141,7 @@ pub fn command<'a>(alloc: Global) -> Result<Command<'a>, AllocError> {
         .bin_name("soqavise")?
         .version("0.31.0")
         .about("Shows, checks and converts messages of ASN.1 in BER, CER and DER")
+        .after_help(STATUSES)
         .subcommand_required(true)
         .subcommand(show_command(alloc)?)?
         .subcommand(check_command(alloc)?)?
@@ -108,7 +150,9 @@ pub fn command<'a>(alloc: Global) -> Result<Command<'a>, AllocError> {
         .subcommand(encode_command(alloc)?)?
         .subcommand(normalise_command(alloc)?)?
         .subcommand(types_command(alloc)?)?
-        .subcommand(dump_command(alloc)?)
+        .subcommand(dump_command(alloc)?)?
+        .subcommand(get_command(alloc)?)?
+        .subcommand(table_command(alloc)?)
 }
 
 fn show_command<'a>(alloc: Global) -> Result<Command<'a>, AllocError> {
@@ -120,7 +164,24 @@ fn show_command<'a>(alloc: Global) -> Result<Command<'a>, AllocError> {
             alloc,
             "offsets",
             "Prints where each part begins, and its lengths",
-        ))
+        ))?
+        .arg(flag(alloc, "full", "Prints all of octets that are cut otherwise"))?
+        .arg(flag(
+            alloc,
+            "json",
+            "Prints the same as JSON, with all octets; `json` prints that of X.697",
+        )
+        .conflicts_with("offsets")?)?
+        .arg(
+            flag(
+                alloc,
+                "html",
+                "Prints a page of HTML: parts, where departures from DER are marked, beside octets",
+            )
+            .conflicts_with("json")?
+            .conflicts_with("lines")?
+            .conflicts_with("offsets")?,
+        )
 }
 
 fn check_command<'a>(alloc: Global) -> Result<Command<'a>, AllocError> {
@@ -147,7 +208,8 @@ fn lint_command<'a>(alloc: Global) -> Result<Command<'a>, AllocError> {
 fn json_command<'a>(alloc: Global) -> Result<Command<'a>, AllocError> {
     messages(alloc, "json", "Prints messages as JSON (X.697)")?
         .after_help("Example: soqavise json cert.pem")
-        .arg(rules(alloc, READ))
+        .arg(rules(alloc, READ))?
+        .arg(numbers(alloc))
 }
 
 fn encode_command<'a>(alloc: Global) -> Result<Command<'a>, AllocError> {
@@ -155,7 +217,7 @@ fn encode_command<'a>(alloc: Global) -> Result<Command<'a>, AllocError> {
         .about("Writes the messages whose JSON is read")
         .after_help("Example: soqavise encode --type Certificate cert.json")
         .arg(modules(alloc))?
-        .arg(type_name(alloc).required_unless_present("example")?)?
+        .arg(type_name(alloc, "The type of the messages").required_unless_present("example")?)?
         .arg(
             Arg::new(alloc, "example")
                 .long("example")
@@ -165,7 +227,7 @@ fn encode_command<'a>(alloc: Global) -> Result<Command<'a>, AllocError> {
                 .conflicts_with("file")?
                 .help("Prints JSON of this type to begin with, and reads nothing"),
         )?
-        .arg(rules(alloc, "The encoding rules by which messages are written"))?
+        .arg(rules(alloc, WRITTEN))?
         .arg(lines(
             alloc,
             "Reads the JSON of a message from each line, and writes hexadecimal digits",
@@ -198,16 +260,56 @@ fn dump_command<'a>(alloc: Global) -> Result<Command<'a>, AllocError> {
     Command::new(alloc, "dump")
         .about("Prints headers, lengths and values of any BER, without a type")
         .after_help("Example: soqavise dump message.ber")
+        .arg(modules(alloc))?
         .arg(input(alloc))?
         .arg(files(alloc))
 }
 
+fn get_command<'a>(alloc: Global) -> Result<Command<'a>, AllocError> {
+    of_parts(alloc, "get", "Prints the values of parts, a line for each")?
+        .after_help("Example: soqavise get subject,validity.notAfter cert.pem")
+        .arg(rules(alloc, READ))?
+        .arg(flag(alloc, "json", "Prints values as JSON (X.697)"))
+}
+
+fn table_command<'a>(alloc: Global) -> Result<Command<'a>, AllocError> {
+    of_parts(
+        alloc,
+        "table",
+        "Prints a line for each message, with the values of these parts",
+    )?
+    .after_help("Example: soqavise table subject,validity.notAfter *.pem")
+    .arg(rules(alloc, READ))?
+    .arg(flag(
+        alloc,
+        "csv",
+        "Prints commas between the columns, and not tabs",
+    ))
+}
+
+/// Returns a command on parts of messages.
+fn of_parts<'a>(alloc: Global, name: &'a str, about: &'a str) -> Result<Command<'a>, AllocError> {
+    with_messages(
+        alloc,
+        Command::new(alloc, name).about(about).arg(
+            Arg::new(alloc, "path")
+                .value_name("PATH[,PATH]..")
+                .required(true)
+                .help("Names and indices, as subject or extensions[0].extnValue"),
+        )?,
+    )
+}
+
 /// Returns a command on messages.
 fn messages<'a>(alloc: Global, name: &'a str, about: &'a str) -> Result<Command<'a>, AllocError> {
-    Command::new(alloc, name)
-        .about(about)
+    with_messages(alloc, Command::new(alloc, name).about(about))
+}
+
+/// Returns a command with the options of those on messages.
+fn with_messages<'a>(alloc: Global, command: Command<'a>) -> Result<Command<'a>, AllocError> {
+    command
         .arg(modules(alloc))?
-        .arg(type_name(alloc))?
+        .arg(type_name(alloc, MESSAGES))?
         .arg(
             lines(
                 alloc,
@@ -226,12 +328,12 @@ fn messages<'a>(alloc: Global, name: &'a str, about: &'a str) -> Result<Command<
         .arg(files(alloc))
 }
 
-fn type_name<'a>(alloc: Global) -> Arg<'a> {
+fn type_name<'a>(alloc: Global, help: &'a str) -> Arg<'a> {
     Arg::new(alloc, "type")
         .short('t')
         .long("type")
         .value_name("[MODULE.]TYPE")
-        .help("The type of the messages")
+        .help(help)
 }
 
 fn modules<'a>(alloc: Global) -> Arg<'a> {
@@ -240,7 +342,7 @@ fn modules<'a>(alloc: Global) -> Arg<'a> {
         .long("module")
         .value_name("FILE")
         .action(ArgAction::Append)
-        .help("Reads modules of ASN.1 from this file, too; may be repeated")
+        .help("Reads modules of ASN.1 from this file or folder, too; may be repeated")
 }
 
 fn rules<'a>(alloc: Global, help: &'a str) -> Arg<'a> {
@@ -259,7 +361,7 @@ fn input<'a>(alloc: Global) -> Arg<'a> {
         .long("input")
         .value_name("FORM")
         .value_parser(ValueParser::from(["der", "pem", "hex", "base64"].as_slice()))
-        .help("The form of the input, which is found out otherwise")
+        .help("The form of the input (without it, it is found out)")
 }
 
 fn errors<'a>(alloc: Global) -> Result<Arg<'a>, AllocError> {
@@ -267,8 +369,18 @@ fn errors<'a>(alloc: Global) -> Result<Arg<'a>, AllocError> {
         .long("errors")
         .value_name("FORM")
         .value_parser(ValueParser::from(["text", "json"].as_slice()))
-        .help("The form in which --lines prints why a line is refused")
+        .help("The form in which --lines prints why a line is refused (without it, text)")
         .requires_arg("lines")
+}
+
+fn numbers<'a>(alloc: Global) -> Arg<'a> {
+    Arg::new(alloc, "numbers")
+        .long("numbers")
+        .value_name("FORM")
+        .value_parser(ValueParser::from(["json", "text"].as_slice()))
+        .help(
+            "The form of whole numbers that a double can't hold: as text strings of digits (without it, json)",
+        )
 }
 
 fn color<'a>(alloc: Global) -> Arg<'a> {
@@ -276,7 +388,7 @@ fn color<'a>(alloc: Global) -> Arg<'a> {
         .long("color")
         .value_name("WHEN")
         .value_parser(ValueParser::from(["auto", "always", "never"].as_slice()))
-        .help("When names are in bold: on a terminal, unless this says otherwise")
+        .help("When names are in bold (without it, on a terminal where NO_COLOR isn't set)")
 }
 
 fn files<'a>(alloc: Global) -> Arg<'a> {
@@ -305,7 +417,9 @@ fn flag<'a>(alloc: Global, name: &'a str, help: &'a str) -> Arg<'a> {
 ///
 /// # Errors
 /// `AllocError` if memory runs out.
-pub fn call_of(alloc: Global, matches: &ArgMatches<'_>) -> Result<Option<Call>, AllocError> {
+pub fn call_of(alloc: Global, matches: &ArgMatches<'_>) -> Result<Option<Call>, AllocError>
+    ensures { IfOk result (λ found. IfSome found (λ call. subcommand_name_of matches.now ≡ Some (word_of call.work))) }
+{
     let Some((name, inner)) = matches.subcommand() else {
         return Ok(None);
     };
@@ -315,18 +429,24 @@ pub fn call_of(alloc: Global, matches: &ArgMatches<'_>) -> Result<Option<Call>, 
     Ok(Some(Call {
         work,
         files: owned(alloc, inner.get_strs("file").unwrap_or(&[]))?,
+        paths: paths_of(alloc, inner.get_str("path"))?,
         modules: owned(alloc, inner.get_strs("module").unwrap_or(&[]))?,
         type_name: match inner.get_str("type").or(inner.get_str("example")) {
             Some(name) => Some(String::from_str(alloc, name)?),
             None => None,
         },
-        rules: rules_of(inner.get_str("rules")),
+        rule: rule_of(inner.get_str("rules")),
         input: form_of(inner.get_str("input")),
         open_types: open_types_of(inner.get_flag("outer")),
         has_offsets: inner.get_flag("offsets"),
+        is_full: inner.get_flag("full"),
         has_lines: inner.get_flag("lines"),
         has_json_errors: inner.get_str("errors") == Some("json"),
         is_stream: inner.get_flag("stream"),
+        has_json: inner.get_flag("json"),
+        has_exact_numbers: inner.get_str("numbers") == Some("text"),
+        has_html: inner.get_flag("html"),
+        is_csv: inner.get_flag("csv"),
         color: color_of(inner.get_str("color")),
     }))
 }
@@ -340,8 +460,21 @@ fn owned(alloc: Global, words: &[&str]) -> Result<Vec<String>, AllocError> {
     Ok(copies)
 }
 
+/// Returns copies of the paths between commas.
+fn paths_of(alloc: Global, paths: Option<&str>) -> Result<Vec<String>, AllocError> {
+    let mut copies = Vec::new(alloc);
+    if let Some(paths) = paths {
+        for path in paths.split(',') {
+            copies.push(String::from_str(alloc, path)?)?;
+        }
+    }
+    Ok(copies)
+}
+
 /// Returns the work that a subcommand asks for, which may ask for an example.
-fn work_of(name: &str, is_example: bool) -> Option<Work> {
+fn work_of(name: &str, is_example: bool) -> Option<Work>
+    ensures { IfSome result (λ work. name.now ≡ word_of work) }
+{
     match name {
         "encode" if is_example => Some(Work::Example),
         "show" => Some(Work::Show),
@@ -352,20 +485,22 @@ fn work_of(name: &str, is_example: bool) -> Option<Work> {
         "normalise" => Some(Work::Normalise),
         "types" => Some(Work::Types),
         "dump" => Some(Work::Dump),
+        "get" => Some(Work::Get),
+        "table" => Some(Work::Table),
         _ => None,
     }
 }
 
 /// Returns the rules of this name, in capitals or small letters.
-fn rules_of(name: Option<&str>) -> Option<Codec> {
+fn rule_of(name: Option<&str>) -> Option<Codec> {
     let name = name?;
-    for (word, rules) in [
+    for (word, rule) in [
         ("ber", Codec::Ber),
         ("cer", Codec::Cer),
         ("der", Codec::Der),
     ] {
         if name.eq_ignore_ascii_case(word) {
-            return Some(rules);
+            return Some(rule);
         }
     }
     None

@@ -25,9 +25,14 @@ pub(crate) struct Entry<'input> {
     pub is_constructed: bool,
     /// Whether its length is indefinite (X.690 8.1.3.6).
     pub is_indefinite: bool,
+    /// Whether it is a string that is opened: the next encoding is the one that it holds.
+    pub is_opened: bool,
     /// All of its octets; if its length is indefinite, those up to the end of what holds it.
     pub octets: &'input [u8],
 }
+
+/// How many strings in one another are opened: for each its contents are gone over once.
+const OPENED: usize = 8;
 
 /// After so many levels their number is in place of the spaces that a line begins with.
 const INDENTED: usize = 64;
@@ -45,16 +50,28 @@ pub(crate) enum End {
     Contents,
 }
 
+/// An encoding that hasn't ended.
+#[derive(Clone, Copy)]
+struct Around {
+    /// The last place where it may end.
+    end: usize,
+    /// Whether its length is indefinite.
+    is_indefinite: bool,
+    /// Whether it is a string that is opened.
+    is_opened: bool,
+}
+
 /// The encodings of octets, outer before inner, up to the first whose header can't be read.
 #[derive(Drop)]
 pub(crate) struct Entries<'input> {
     alloc: Global,
     octets: &'input [u8],
-    /// Holds of each encoding that hasn't ended the last place where it may end, and whether its
-    /// length is indefinite.
-    around: Vec<(usize, bool)>,
+    /// The encodings that haven't ended.
+    around: Vec<Around>,
     /// Says where the next encoding begins, or where those end that haven't ended yet.
     pub(crate) at: usize,
+    /// How many more strings in one another are opened.
+    strings: usize,
 }
 
 impl<'input> Entries<'input> {
@@ -65,31 +82,46 @@ impl<'input> Entries<'input> {
             octets,
             around: Vec::new(alloc),
             at: 0,
+            strings: 0,
         }
     }
 
-    /// Returns where the innermost encoding ends at the latest, and whether its length is
-    /// indefinite.
-    fn innermost(&self) -> (usize, bool) {
-        self.around
-            .last()
-            .copied()
-            .unwrap_or((self.octets.len(), false))
+    /// Returns the encodings of octets, with those that primitive OCTET and BIT STRINGs hold, of which
+    /// eight in one another are opened.
+    pub(crate) fn opened(alloc: Global, octets: &'input [u8]) -> Entries<'input> {
+        Entries {
+            strings: OPENED,
+            ..Entries::new(alloc, octets)
+        }
+    }
+
+    /// Returns the innermost encoding that hasn't ended; without one, all octets are in it.
+    fn innermost(&self) -> Around {
+        self.around.last().copied().unwrap_or(Around {
+            end: self.octets.len(),
+            is_indefinite: false,
+            is_opened: false,
+        })
     }
 
     /// Returns what is left of the innermost encoding.
     pub(crate) fn rest(&self) -> &'input [u8] {
-        self.octets.get(self.at..self.innermost().0).unwrap_or(&[])
+        self.octets
+            .get(self.at..self.innermost().end)
+            .unwrap_or(&[])
     }
 
     /// Leaves the innermost encoding if it ends here. Returns whether it did.
     fn leave(&mut self) -> bool {
-        let (_, is_indefinite) = self.innermost();
-        if self.around.is_empty() || !is_ended(self.rest(), is_indefinite) {
+        let innermost = self.innermost();
+        if self.around.is_empty() || !is_ended(self.rest(), innermost.is_indefinite) {
             return false;
         }
-        let end_len = if is_indefinite { 2 } else { 0 };
+        let end_len = if innermost.is_indefinite { 2 } else { 0 };
         self.at = self.at.saturating_add(end_len);
+        if innermost.is_opened {
+            self.strings = self.strings.saturating_add(1);
+        }
         self.around.pop().is_some()
     }
 
@@ -106,19 +138,53 @@ impl<'input> Entries<'input> {
         if self.around.is_empty() && self.rest().is_empty() {
             return Ok(None);
         }
-        let (end, _) = self.innermost();
         let entry = entry_of(self.alloc, self.rest(), self.around.len(), self.at)?;
-        let after = self.at.saturating_add(entry.octets.len());
-        if !entry.is_constructed {
-            self.at = after;
+        if entry.is_constructed {
+            self.enter(&entry, 0)?;
+        } else {
+            self.at = self.at.saturating_add(entry.octets.len());
+        }
+        Ok(Some(entry))
+    }
+
+    /// Returns the next encoding, as `next` does. If it is a string that is opened, the one that it
+    /// holds comes next.
+    ///
+    /// # Errors
+    /// As `next`.
+    pub(crate) fn next_opened(&mut self) -> Result<Option<Entry<'input>>, DecodeError> {
+        let Some(mut entry) = self.next()? else {
+            return Ok(None);
+        };
+        if entry.is_constructed || self.strings == 0 {
             return Ok(Some(entry));
         }
-        let end = if entry.is_indefinite { end } else { after };
-        if self.around.push((end, entry.is_indefinite)).is_err() {
-            return Err(out_of_memory());
+        if let Some(before) = before_held(self.alloc, &entry)? {
+            entry.is_opened = true;
+            self.strings = self.strings.saturating_sub(1);
+            self.enter(&entry, before)?;
         }
-        self.at = self.at.saturating_add(entry.header_len);
         Ok(Some(entry))
+    }
+
+    /// Goes into an encoding, of whose contents so many octets are before the next encoding. It ends
+    /// with its octets unless its length is indefinite.
+    fn enter(&mut self, entry: &Entry<'_>, before: usize) -> Result<(), DecodeError> {
+        let around = Around {
+            end: if entry.is_indefinite {
+                self.innermost().end
+            } else {
+                entry.offset.saturating_add(entry.octets.len())
+            },
+            is_indefinite: entry.is_indefinite,
+            is_opened: entry.is_opened,
+        };
+        let inner = entry.offset.saturating_add(entry.header_len);
+        self.at = inner.saturating_add(before);
+        match self.around.push(around) {
+            Ok(()) => Ok(()),
+            Err(_) => Err(out_of_memory()),
+        }
     }
 
     /// Goes on to the encoding that begins so many octets after the start, and isn't before the next
@@ -151,7 +217,7 @@ impl<'input> Entries<'input> {
         };
         if is_whole {
             End::Contents
-        } else if self.around.iter().all(|it| it.1) {
+        } else if self.around.iter().all(|it| it.is_indefinite) {
             End::Input
         } else if self.rest().is_empty() {
             End::Here
@@ -195,12 +261,72 @@ pub(crate) fn deeper_at(
 
 /// Returns whether an encoding ends where these octets begin: with end-of-contents octets if its
 /// length is indefinite (X.690 8.1.5), otherwise where no octets remain.
-fn is_ended(rest: &[u8], is_indefinite: bool) -> bool {
+pub(crate) fn is_ended(rest: &[u8], is_indefinite: bool) -> bool {
     if is_indefinite {
         rest.starts_with(&[0, 0])
     } else {
         rest.is_empty()
     }
+}
+
+/// Returns the whole encoding with which octets begin, or all of them without one, and what follows
+/// it.
+pub(crate) fn first_encoding(alloc: Global, octets: &[u8]) -> (&[u8], &[u8]) {
+    let mut decoder = Decoder::new(alloc, octets, DecoderOptions::of(Codec::Ber));
+    match decoder.skip_value() {
+        Ok(_) => {
+            let end = octets.len().saturating_sub(decoder.remaining().len());
+            octets.split_at_checked(end).unwrap_or((octets, &[]))
+        }
+        Err(_) => (octets, &[]),
+    }
+}
+
+/// Returns how many octets of the contents of a primitive encoding are before an encoding of a
+/// universal type that fills the rest of them, if it is an OCTET STRING or a BIT STRING that holds one.
+fn before_held(alloc: Global, entry: &Entry<'_>) -> Result<Option<usize>, DecodeError> {
+    let contents = entry.octets.get(entry.header_len..).unwrap_or(&[]);
+    let (before, held) = match contents.split_first() {
+        Some((0, held)) if entry.tag == Tag::BIT_STRING => (1, held),
+        Some(_) if entry.tag == Tag::OCTET_STRING => (0, contents),
+        Some(_) | None => return Ok(None),
+    };
+    Ok(if is_encoding(alloc, held)? {
+        Some(before)
+    } else {
+        None
+    })
+}
+
+/// Returns whether octets are one encoding, of a universal type, in which each header can be read.
+fn is_encoding(alloc: Global, octets: &[u8]) -> Result<bool, DecodeError> {
+    let first = match entry_of(alloc, octets, 0, 0) {
+        Ok(first) => first,
+        Err(error) if error.is_out_of_memory() => return Err(error),
+        Err(_) => return Ok(false),
+    };
+    if first.tag.class != Class::Universal || universal_name(first.tag.value).is_none() {
+        return Ok(false);
+    }
+    if first.is_indefinite || first.octets.len() != octets.len() {
+        return Ok(false);
+    }
+    are_entries(alloc, octets)
+}
+
+/// Returns whether the header of each encoding of octets can be read.
+pub(crate) fn are_entries(alloc: Global, octets: &[u8]) -> Result<bool, DecodeError> {
+    let mut entries = Entries::new(alloc, octets);
+    // Each encoding has an octet of its own.
+    for _ in octets {
+        match entries.next() {
+            Ok(Some(_)) => {}
+            Ok(None) => return Ok(true),
+            Err(error) if error.is_out_of_memory() => return Err(error),
+            Err(_) => return Ok(false),
+        }
+    }
+    Ok(true)
 }
 
 /// Returns why the next of these encodings can't be read, and where it is.
@@ -239,6 +365,7 @@ pub(crate) fn entry_of(
         tag,
         is_constructed: matches!(octets, [first, ..] if (*first / 0x20) % 2 == 1),
         is_indefinite,
+        is_opened: false,
         octets: octets.get(..end).unwrap_or(octets),
     })
 }
@@ -247,7 +374,7 @@ pub(crate) fn entry_of(
 /// have, its tag, and the value if it is one of a universal type that holds no others.
 pub(crate) fn entry_line(
     alloc: Global,
-    known: &Known,
+    known: &Known<'_>,
     entry: &Entry<'_>,
 ) -> Result<String, AllocError> {
     let (offset, header_len, len) = (entry.offset, entry.header_len, entry.octets.len());
@@ -299,10 +426,13 @@ pub(crate) fn push_indent(text: &mut String, depth: usize) -> Result<(), AllocEr
 pub(crate) fn push_entry(
     text: &mut String,
     alloc: Global,
-    known: &Known,
+    known: &Known<'_>,
     entry: &Entry<'_>,
 ) -> Result<(), AllocError> {
     text.push_str(tag_text(alloc, entry.tag)?.as_str())?;
+    if entry.is_opened {
+        return text.push_str(", an encoding");
+    }
     if entry.is_constructed || entry.tag == Tag::NULL {
         return Ok(());
     }
@@ -313,13 +443,14 @@ pub(crate) fn push_entry(
 /// Returns the value of a primitive encoding: by its universal type, or as text or hexadecimal.
 pub(crate) fn primitive_text(
     alloc: Global,
-    known: &Known,
+    known: &Known<'_>,
     entry: &Entry<'_>,
 ) -> Result<String, AllocError> {
-    match &known.universal_value(alloc, entry.octets)? {
-        Some(Value::Chosen(_, value)) => leaf_text(alloc, None, value),
-        _ => octets_text(alloc, entry.octets.get(entry.header_len..).unwrap_or(&[])),
+    if let Some(Value::Chosen(_, value)) = &known.universal_value(alloc, entry.octets)? {
+        return leaf_text(alloc, known, None, value, known.is_cut);
     }
+    let contents = entry.octets.get(entry.header_len..).unwrap_or(&[]);
+    octets_text(alloc, contents, known.is_cut)
 }
 
 /// Returns a tag as text: the name of a universal type, or as it is written in a module.

@@ -1,4 +1,7 @@
 //! A value of a type to begin with.
+ghost use Rattle.std.specs.Prelude.{◌≡◌, replicate, IfOk, IfSome};
+ghost use Rattle.rasn_types.specs.Shapes.{number, numbers};
+ghost use Rattle.rasn_schema.specs.Trees.{tree_of};
 
 use rasn_schema::{
     Alternative, Component, LeafKind, NamedNumber, Presence, Schema, Type, TypeId, Value, type_at,
@@ -207,13 +210,7 @@ fn leaf(alloc: Global, kind: LeafKind, constraints: &Constraints, names: &[Named
         | LeafKind::Signed32
         | LeafKind::Signed64
         | LeafKind::Unsigned32
-        | LeafKind::Unsigned64 => {
-            let first = match names.first() {
-                Some(first) => first.number as i128,
-                None => 0,
-            };
-            number(alloc, nearest(constraints.value, first))
-        }
+        | LeafKind::Unsigned64 => number(alloc, nearest(constraints.value, first_number(names))),
         LeafKind::ObjectIdentifier => {
             // The arc for examples (X.660 7.8).
             let arcs = ObjectIdentifier::from_arcs(alloc, &[2, 999])?;
@@ -227,21 +224,8 @@ fn leaf(alloc: Global, kind: LeafKind, constraints: &Constraints, names: &[Named
         LeafKind::Printable | LeafKind::Visible | LeafKind::Ia5 | LeafKind::AnyOctets => {
             octets(alloc, b'A', text)
         }
-        LeafKind::Utf8 => {
-            let mut characters = String::new(alloc);
-            for _ in 0..text {
-                characters.push('A')?;
-            }
-            Ok(Some(Value::Text(CowStr::Owned(characters))))
-        }
-        LeafKind::Bmp => {
-            let mut units = Vec::new(alloc);
-            for _ in 0..text {
-                units.extend_from_slice(&[0, b'A'])?;
-            }
-            let units = BmpString::from_octets(alloc, &units)?;
-            Ok(units.map(|units| Value::Units(units)))
-        }
+        LeafKind::Utf8 => characters(alloc, text),
+        LeafKind::Bmp => units(alloc, text),
         LeafKind::UtcTime | LeafKind::GeneralizedTime => {
             let time = parse_generalized_time(b"20000101000000Z");
             Ok(time.map(|time| Value::Instant(time)))
@@ -250,13 +234,44 @@ fn leaf(alloc: Global, kind: LeafKind, constraints: &Constraints, names: &[Named
     }
 }
 
+/// Returns the first of the numbers that have a name, or 0 without one.
+fn first_number(names: &[NamedNumber]) -> i128 {
+    match names.first() {
+        Some(first) => first.number as i128,
+        None => 0,
+    }
+}
+
+/// Returns so many characters.
+fn characters(alloc: Global, count: usize) -> Made {
+    let mut text = String::new(alloc);
+    for _ in 0..count {
+        text.push('A')?;
+    }
+    Ok(Some(Value::Text(CowStr::Owned(text))))
+}
+
+/// Returns so many characters of two octets.
+fn units(alloc: Global, count: usize) -> Made {
+    let mut octets = Vec::new(alloc);
+    for _ in 0..count {
+        octets.extend_from_slice(&[0, b'A'])?;
+    }
+    let units = BmpString::from_octets(alloc, &octets)?;
+    Ok(units.map(|units| Value::Units(units)))
+}
+
 /// Returns a number.
-fn number(alloc: Global, number: i128) -> Made {
-    Ok(Some(Value::Integer(Integer::from_i128(alloc, number)?)))
+fn number(alloc: Global, value: i128) -> Made
+    ensures { IfOk result (λ made. IfSome made (λ v. tree_of v ≡ number value)) }
+{
+    Ok(Some(Value::Integer(Integer::from_i128(alloc, value)?)))
 }
 
 /// Returns so many octets.
-fn octets(alloc: Global, octet: u8, count: usize) -> Made {
+fn octets(alloc: Global, octet: u8, count: usize) -> Made
+    ensures { IfOk result (λ made. IfSome made (λ v. tree_of v ≡ numbers (replicate count octet))) }
+{
     let octets = vec![in alloc; octet; count]?;
     Ok(Some(Value::Octets(CowSlice::Owned(octets))))
 }

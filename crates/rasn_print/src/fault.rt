@@ -7,7 +7,7 @@ use std::io::{self, ErrorKind};
 
 /// The reason why the program stops.
 #[derive(Debug, Drop)]
-pub enum Fault {
+pub enum CallFault {
     /// The call is wrong, or a file of it can't be read: what is printed then.
     Call(String),
     /// The output can't be written.
@@ -18,33 +18,33 @@ pub enum Fault {
     Memory,
 }
 
-impl From<AllocError> for Fault {
-    fn from(_: AllocError) -> Fault {
-        Fault::Memory
+impl From<AllocError> for CallFault {
+    fn from(_: AllocError) -> CallFault {
+        CallFault::Memory
     }
 }
 
-impl<T: Drop> From<AllocFailed<T>> for Fault {
-    fn from(_: AllocFailed<T>) -> Fault {
-        Fault::Memory
+impl<T: Drop> From<AllocFailed<T>> for CallFault {
+    fn from(_: AllocFailed<T>) -> CallFault {
+        CallFault::Memory
     }
 }
 
-impl Fault {
+impl CallFault {
     /// Returns the fault of a wrong call.
-    pub fn of_call<T: fmt::Display>(alloc: Global, text: &T) -> Fault {
+    pub fn of_call<T: fmt::Display>(alloc: Global, text: &T) -> CallFault {
         match call_line(alloc, text) {
-            Ok(text) => Fault::Call(text),
-            Err(_) => Fault::Memory,
+            Ok(text) => CallFault::Call(text),
+            Err(_) => CallFault::Memory,
         }
     }
 
     /// Returns the fault of a failed write.
-    pub fn of_write(error: io::Error) -> Fault {
+    pub fn of_write(error: io::Error) -> CallFault {
         match error.kind() {
-            ErrorKind::OutOfMemory => Fault::Memory,
-            ErrorKind::BrokenPipe => Fault::Closed,
-            _ => Fault::Write,
+            ErrorKind::OutOfMemory => CallFault::Memory,
+            ErrorKind::BrokenPipe => CallFault::Closed,
+            _ => CallFault::Write,
         }
     }
 }

@@ -1,7 +1,7 @@
 //! The form of an input.
 
 use crate::command_line::{Call, InputForm, Work};
-use crate::pasted::{from_base64, from_digits, is_hexadecimal};
+use crate::pasted::{Digits, from_base64, from_digits};
 use rasn_text::{Block, blocks};
 use std::alloc::{AllocError, Global};
 
@@ -40,8 +40,9 @@ pub(crate) fn form_of<'text>(
         Some(InputForm::Der) => Ok(Form::Octets),
         Some(InputForm::Pem) => Ok(Form::Pem(blocks(alloc, text)?)),
         Some(InputForm::Hex) => match from_digits(alloc, text)? {
-            Some(octets) => Ok(Form::Text(octets)),
-            None => Ok(Form::Wrong(why_not_hexadecimal(text, "not hexadecimal digits"))),
+            Digits::Octets(octets) => Ok(Form::Text(octets)),
+            Digits::Odd => Ok(Form::Wrong(ODD)),
+            Digits::Other => Ok(Form::Wrong("not hexadecimal digits")),
         },
         Some(InputForm::Base64) => match from_base64(alloc, text)? {
             Some(octets) => Ok(Form::Text(octets)),
@@ -58,19 +59,10 @@ fn found_form<'text>(alloc: Global, text: &'text [u8]) -> Result<Form<'text>, Al
     if !list.is_empty() {
         return Ok(Form::Pem(list));
     }
-    if !is_plain_text(text) {
-        return Ok(Form::Octets);
+    if is_plain_text(text) {
+        return form_of_text(alloc, text, Form::Octets);
     }
-    if let Some(octets) = from_digits(alloc, text)? {
-        return Ok(Form::Text(octets));
-    }
-    if is_hexadecimal(text) {
-        return Ok(Form::Wrong(ODD));
-    }
-    match from_base64(alloc, text)? {
-        Some(octets) => Ok(Form::Text(octets)),
-        None => Ok(Form::Octets),
-    }
+    Ok(Form::Octets)
 }
 
 /// Returns whether octets are some graphic characters of ASCII and white space.
@@ -82,25 +74,33 @@ pub(crate) fn is_plain_text(octets: &[u8]) -> bool {
 /// What is wrong with digits of which one is left over.
 const ODD: &str = "an odd number of hexadecimal digits";
 
-/// Returns why a text that denotes no octets in digits is refused, or `otherwise` if it isn't
-/// digits.
-pub(crate) fn why_not_hexadecimal(text: &[u8], otherwise: &'static str) -> &'static str {
-    if is_hexadecimal(text) { ODD } else { otherwise }
+/// Returns the octets that a text denotes in hexadecimal digits or else in base64, or `otherwise` if
+/// it is neither.
+fn form_of_text<'text>(
+    alloc: Global,
+    text: &[u8],
+    otherwise: Form<'text>,
+) -> Result<Form<'text>, AllocError> {
+    match from_digits(alloc, text)? {
+        Digits::Octets(octets) => return Ok(Form::Text(octets)),
+        Digits::Odd => return Ok(Form::Wrong(ODD)),
+        Digits::Other => {}
+    }
+    match from_base64(alloc, text)? {
+        Some(octets) => Ok(Form::Text(octets)),
+        None => Ok(otherwise),
+    }
 }
 
-/// Returns the octets of a line of JSON, or those that a line denotes, in hexadecimal digits or else
-/// in base64.
-pub(crate) fn from_line(
+/// Returns what a line is: JSON for `encode`, or else hexadecimal digits or base64.
+pub(crate) fn form_of_line(
     alloc: Global,
     work: Work,
     line: &[u8],
-) -> Result<Option<Vec<u8>>, AllocError> {
+) -> Result<Form<'static>, AllocError> {
     if work == Work::Encode {
-        return Ok(Some(Vec::from_slice(alloc, line)?));
+        return Ok(Form::Octets);
     }
-    let digits = from_digits(alloc, line)?;
-    if digits.is_some() || is_hexadecimal(line) {
-        return Ok(digits);
-    }
-    from_base64(alloc, line)
+    let otherwise = Form::Wrong("neither hexadecimal nor base64");
+    form_of_text(alloc, line, otherwise)
 }

@@ -1,33 +1,43 @@
 //! Values that hold no other values, as text.
 
 use crate::identifiers::identifier_text;
+use crate::known::Known;
 use rasn_schema::{LeafKind, NamedNumber, Type, Value, name_of_number};
 use rasn_types::types::{BitStr, BmpString, Hexadecimal, Integer};
 use std::alloc::{AllocError, Global};
 use std::str;
 
+/// Of more than so many octets the first are shown where long ones are cut.
+const LONG: usize = 96;
+
+/// How many of long octets are shown.
+const SHOWN: usize = 48;
+
 /// Returns a value that holds no others as text, with the names that its type has, if it is known.
+/// Long octets may be cut.
 pub(crate) fn leaf_text(
     alloc: Global,
+    known: &Known<'_>,
     ty: Option<&Type>,
     value: &Value<'_>,
+    is_cut: bool,
 ) -> Result<String, AllocError> {
     match value {
         Value::Boolean(true) => String::from_str(alloc, "TRUE"),
         Value::Boolean(false) => String::from_str(alloc, "FALSE"),
         Value::Null => String::from_str(alloc, "NULL"),
-        Value::Integer(number) => number_text(alloc, names_of(ty), number),
+        Value::Integer(number) => number_text(alloc, names_of(ty), number, is_cut),
         Value::Bits(bits) if is_named_bits(ty) => {
             named_bits_text(alloc, names_of(ty), &bits.as_bitstr())
         }
-        Value::Bits(bits) => bits_text(alloc, &bits.as_bitstr()),
-        Value::Octets(octets) => octets_text(alloc, octets.as_slice()),
-        Value::Text(text) => octets_text(alloc, text.as_str().as_bytes()),
+        Value::Bits(bits) => bits_text(alloc, &bits.as_bitstr(), is_cut),
+        Value::Octets(octets) => octets_text(alloc, octets.as_slice(), is_cut),
+        Value::Text(text) => octets_text(alloc, text.as_str().as_bytes(), is_cut),
         Value::Units(units) => match characters_of(alloc, units)? {
-            Some(text) => octets_text(alloc, text.as_bytes()),
-            None => Hexadecimal::new(units.as_octets()).to_string(alloc),
+            Some(text) => octets_text(alloc, text.as_bytes(), is_cut),
+            None => digits_text(alloc, units.as_octets(), is_cut),
         },
-        Value::Arcs(identifier) => identifier_text(alloc, identifier),
+        Value::Arcs(identifier) => identifier_text(alloc, known, identifier),
         Value::Instant(time) => time.to_string(alloc),
         Value::Day(date) => date.to_string(alloc),
         Value::Items(_) | Value::Elements(_) | Value::Chosen(_, _) | Value::Absent => {
@@ -36,13 +46,73 @@ pub(crate) fn leaf_text(
     }
 }
 
+/// Returns the characters of a value of a type of character strings, if they are UTF-8 or units of a
+/// BMPString that are characters. Returns `None` of other values.
+pub(crate) fn string_text(
+    alloc: Global,
+    ty: Option<&Type>,
+    value: &Value<'_>,
+) -> Result<Option<String>, AllocError> {
+    match value {
+        Value::Text(text) => Ok(Some(String::from_str(alloc, text.as_str())?)),
+        Value::Units(units) => characters_of(alloc, units),
+        Value::Octets(octets) if is_string(ty) => match str::from_utf8(octets.as_slice()) {
+            Ok(text) => Ok(Some(String::from_str(alloc, text)?)),
+            Err(_) => Ok(None),
+        },
+        Value::Octets(_)
+        | Value::Boolean(_)
+        | Value::Null
+        | Value::Integer(_)
+        | Value::Bits(_)
+        | Value::Arcs(_)
+        | Value::Instant(_)
+        | Value::Day(_)
+        | Value::Items(_)
+        | Value::Elements(_)
+        | Value::Chosen(_, _)
+        | Value::Absent => Ok(None),
+    }
+}
+
+/// Returns whether a type is one of character strings.
+fn is_string(ty: Option<&Type>) -> bool {
+    let Some(Type::Leaf { kind, .. }) = ty else {
+        return false;
+    };
+    match kind {
+        LeafKind::Utf8
+        | LeafKind::Bmp
+        | LeafKind::Numeric
+        | LeafKind::Printable
+        | LeafKind::Visible
+        | LeafKind::Ia5
+        | LeafKind::AnyOctets => true,
+        LeafKind::Boolean
+        | LeafKind::Null
+        | LeafKind::Integer
+        | LeafKind::Signed32
+        | LeafKind::Signed64
+        | LeafKind::Unsigned32
+        | LeafKind::Unsigned64
+        | LeafKind::ObjectIdentifier
+        | LeafKind::BitString
+        | LeafKind::NamedBits
+        | LeafKind::OctetString
+        | LeafKind::FixedOctetString(_)
+        | LeafKind::UtcTime
+        | LeafKind::GeneralizedTime
+        | LeafKind::Date => false,
+    }
+}
+
 /// Returns whether a type is a BIT STRING whose bits have names.
-fn is_named_bits(ty: Option<&Type>) -> bool {
+pub(crate) fn is_named_bits(ty: Option<&Type>) -> bool {
     matches!(ty, Some(Type::Leaf { kind, .. }) if *kind == LeafKind::NamedBits)
 }
 
 /// Returns the names of the numbers of a type, or of its bits.
-fn names_of<'types>(ty: Option<&'types Type>) -> &'types [NamedNumber] {
+pub(crate) fn names_of<'types>(ty: Option<&'types Type>) -> &'types [NamedNumber] {
     match ty {
         Some(Type::Leaf { names, .. } | Type::Enumerated { numbers: names, .. }) =>
             names.as_slice(),
@@ -62,23 +132,25 @@ fn names_of<'types>(ty: Option<&'types Type>) -> &'types [NamedNumber] {
 
 /// Returns a number in decimal, with its name if it has one: `2 (v3)`. One of more than four octets
 /// is also in hexadecimal, and one of more than 128 bits is so alone, with the number of its bits.
-fn number_text(
+pub(crate) fn number_text(
     alloc: Global,
     names: &[NamedNumber],
     number: &Integer,
+    is_cut: bool,
 ) -> Result<String, AllocError> {
     let octets = match number.as_octets() {
         [0, more @ ..] if !more.is_empty() => more,
         all => all,
     };
-    let shown = Hexadecimal::new(octets);
     let Some(small) = number.to_i128() else {
+        let (first, dots) = first_of(octets, is_cut);
+        let shown = Hexadecimal::new(first);
         if number.is_negative() {
-            return format!(in alloc; "0x{shown} (negative, in two's complement)");
+            return format!(in alloc; "0x{shown}{dots} (negative, in two's complement)");
         }
         let unused = octets.first().copied().unwrap_or(0).leading_zeros() as usize;
         let bits = octets.len().saturating_mul(8).saturating_sub(unused);
-        return format!(in alloc; "0x{shown} ({bits} bits)");
+        return format!(in alloc; "0x{shown}{dots} ({bits} bits)");
     };
     if let Some(name) = name_of(names, small) {
         return format!(in alloc; "{small} ({name})");
@@ -86,18 +158,52 @@ fn number_text(
     if small < 0 || octets.len() <= 4 {
         return small.to_string(alloc);
     }
-    format!(in alloc; "{small} (0x{shown})")
+    format!(in alloc; "{small} (0x{})", Hexadecimal::new(octets))
+}
+
+/// Returns the octets that are shown of these, and what follows if these are not all.
+fn first_of(octets: &[u8], is_cut: bool) -> (&[u8], &'static str) {
+    match octets.get(..SHOWN) {
+        Some(first) if is_cut && octets.len() > LONG => (first, ".."),
+        _ => (octets, ""),
+    }
+}
+
+/// Returns octets in hexadecimal. If long ones are cut, their number follows the first of them.
+pub(crate) fn digits_text(
+    alloc: Global,
+    octets: &[u8],
+    is_cut: bool,
+) -> Result<String, AllocError> {
+    let (first, dots) = first_of(octets, is_cut);
+    let shown = Hexadecimal::new(first);
+    if dots.is_empty() {
+        return shown.to_string(alloc);
+    }
+    format!(in alloc; "{shown}{dots} ({} octets)", octets.len())
 }
 
 /// Returns the name of a number or of the bit at this place.
-fn name_of(names: &[NamedNumber], number: i128) -> Option<&str> {
+pub(crate) fn name_of(names: &[NamedNumber], number: i128) -> Option<&str> {
     match isize::try_from(number) {
         Ok(number) => name_of_number(names, number),
         Err(_) => None,
     }
 }
 
-/// Returns the names of the bits that are 1, separated by commas; `bit 9` of one without a name.
+/// Returns the name of the bit at this place, or `bit 9` of one without a name.
+pub(crate) fn bit_text(
+    alloc: Global,
+    names: &[NamedNumber],
+    place: usize,
+) -> Result<String, AllocError> {
+    match name_of(names, place as i128) {
+        Some(name) => String::from_str(alloc, name),
+        None => format!(in alloc; "bit {place}"),
+    }
+}
+
+/// Returns the names of the bits that are 1, separated by commas.
 fn named_bits_text(
     alloc: Global,
     names: &[NamedNumber],
@@ -107,10 +213,8 @@ fn named_bits_text(
     for (place, bit) in bits.iter().enumerate() {
         if bit {
             let mark = if text.is_empty() { "" } else { ", " };
-            match name_of(names, place as i128) {
-                Some(name) => write!(text, "{mark}{name}")?,
-                None => write!(text, "{mark}bit {place}")?,
-            }
+            text.push_str(mark)?;
+            text.push_str(bit_text(alloc, names, place)?.as_str())?;
         }
     }
     if text.is_empty() {
@@ -120,22 +224,26 @@ fn named_bits_text(
 }
 
 /// Returns the bits in hexadecimal, with the number of unused bits in the last octet if it has any.
-fn bits_text(alloc: Global, bits: &BitStr<'_>) -> Result<String, AllocError> {
+fn bits_text(alloc: Global, bits: &BitStr<'_>, is_cut: bool) -> Result<String, AllocError> {
     let mut octets = Vec::new(alloc);
     bits.append_to(&mut octets)?;
-    let shown = Hexadecimal::new(&octets);
+    let shown = digits_text(alloc, &octets, is_cut)?;
     match bits.unused() {
-        0 => shown.to_string(alloc),
+        0 => Ok(shown),
         unused => format!(in alloc; "{shown} ({unused} bits unused)"),
     }
 }
 
 /// Returns octets that are UTF-8 without control characters as quoted text, others in hexadecimal.
 /// Characters that are hidden otherwise are escaped where the text is printed.
-pub(crate) fn octets_text(alloc: Global, octets: &[u8]) -> Result<String, AllocError> {
+pub(crate) fn octets_text(
+    alloc: Global,
+    octets: &[u8],
+    is_cut: bool,
+) -> Result<String, AllocError> {
     match str::from_utf8(octets) {
         Ok(text) if !text.chars().any(|it| it.is_control()) => quoted(alloc, text),
-        _ => Hexadecimal::new(octets).to_string(alloc),
+        _ => digits_text(alloc, octets, is_cut),
     }
 }
 

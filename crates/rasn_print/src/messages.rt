@@ -85,9 +85,19 @@ pub(crate) const MESSAGES: &[StandardType] = &[
     ("OpenSSL", "CertificateTrust", &[TRUST], false),
 ];
 
+/// Returns the index of the type of messages that has this label.
+pub(crate) fn labelled(label: &str) -> Option<usize> {
+    for (index, (_, _, labels, _)) in MESSAGES.iter().enumerate() {
+        if labels.contains(&label) {
+            return Some(index);
+        }
+    }
+    None
+}
+
 /// Returns the rules by which the standard of a module has its messages: BER for CMS (RFC 5652 2),
 /// PKCS #12 (RFC 7292 4), LDAP (RFC 4511 5.1) and SNMP (RFC 3417 8), otherwise DER.
-pub(crate) fn rules_of(module: &str) -> Codec {
+pub(crate) fn rule_of(module: &str) -> Codec {
     match module {
         "CMS" | "PKCS12" | "LDAP" | "SNMP" => Codec::Ber,
         _ => Codec::Der,

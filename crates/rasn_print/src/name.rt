@@ -14,7 +14,7 @@ use std::{slice, str};
 /// Returns `None` if the value has another form.
 pub(crate) fn name_text(
     alloc: Global,
-    known: &Known,
+    known: &Known<'_>,
     value: &Value<'_>,
 ) -> Result<Option<String>, AllocError> {
     let relatives = match value {
@@ -34,7 +34,7 @@ pub(crate) fn name_text(
 fn push_relative(
     text: &mut String,
     alloc: Global,
-    known: &Known,
+    known: &Known<'_>,
     relative: &Value<'_>,
 ) -> Result<bool, AllocError> {
     let Value::Elements(attributes) = relative else {
@@ -70,11 +70,11 @@ fn attribute_of<'value>(
 fn push_attribute(
     text: &mut String,
     alloc: Global,
-    known: &Known,
+    known: &Known<'_>,
     kind: &ObjectIdentifier,
     value: &[u8],
 ) -> Result<(), AllocError> {
-    match attribute_name(kind.arcs()) {
+    match attribute_name(known, kind) {
         Some(name) => write!(text, "{name}=")?,
         None => write!(text, "{kind}=")?,
     }
@@ -91,7 +91,11 @@ fn push_attribute(
 /// NumericString, PrintableString, TeletexString, IA5String, VisibleString or BMPString. Returns
 /// `None` for other encodings, of a string with control characters that aren't ASCII, and of a
 /// TeletexString that isn't ASCII, since few programs use the other octets as T.61 defines them.
-fn string_of(alloc: Global, known: &Known, octets: &[u8]) -> Result<Option<String>, AllocError> {
+fn string_of(
+    alloc: Global,
+    known: &Known<'_>,
+    octets: &[u8],
+) -> Result<Option<String>, AllocError> {
     let Some(0x0C | 0x12 | 0x13 | 0x14 | 0x16 | 0x1A | 0x1E) = octets.first() else {
         return Ok(None);
     };

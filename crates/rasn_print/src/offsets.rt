@@ -1,6 +1,11 @@
 //! The parts of a message with their places.
+ghost use Rattle.std.specs.Prelude.{◌≡◌, IfOk, IfErr};
+ghost use Rattle.rasn_types.specs.Errors.{IsOutOfMemory};
+ghost use Rattle.rasn_lint.specs.Lint.{rest_after};
+ghost use Rattle.rasn_print.specs.Reading.{IsMessage, IsAtFault};
 
 use crate::dump::push_place;
+use crate::known::Known;
 use crate::leaf::leaf_text;
 use crate::reading::{out_of_memory, refuse_rest};
 use crate::types::MessageType;
@@ -16,21 +21,35 @@ use std::alloc::{AllocError, Global};
 /// As [`check`](crate::check), or if memory runs out.
 pub fn offsets_text(
     alloc: Global,
+    known: &Known<'_>,
     wanted: &MessageType<'_>,
     octets: &[u8],
-) -> Result<String, Refusal> {
+) -> Result<String, Refusal>
+    ensures ok { IfOk result (λ _. IsMessage wanted.now octets.now) }
+    ensures err { IfErr result (λ r. (IsOutOfMemory r.error.kind → ⊥) → IsAtFault wanted.now octets.now r) }
+{
     let mut parts = parts_of(alloc, wanted.rule, wanted.schema, wanted.root, octets)?;
-    let end = match parts.list.first() {
-        Some(whole) => whole.octets.len(),
-        None => 0,
-    };
-    refuse_rest(alloc, wanted, octets, octets.get(end..).unwrap_or(&[]))?;
-    text_of(alloc, wanted, &mut parts).map_err(|_| out_of_memory(alloc, wanted))
+    refuse_rest(alloc, wanted, octets, rest_of(&parts, octets))?;
+    match text_of(alloc, known, wanted, &mut parts) {
+        Ok(text) => Ok(text),
+        Err(_) => Err(out_of_memory(alloc, wanted)),
+    }
+}
+
+/// Returns what follows the message that octets begin with, which has these parts.
+fn rest_of<'input>(parts: &MessageParts<'_>, octets: &'input [u8]) -> &'input [u8]
+    ensures { result.now ≡ rest_after parts.now.list.items octets.now }
+{
+    match parts.list.first() {
+        Some(whole) => octets.get(whole.octets.len()..).unwrap_or(&[]),
+        None => octets,
+    }
 }
 
 /// Returns the lines of all parts.
 fn text_of(
     alloc: Global,
+    known: &Known<'_>,
     wanted: &MessageType<'_>,
     parts: &mut MessageParts<'_>,
 ) -> Result<String, AllocError> {
@@ -46,7 +65,7 @@ fn text_of(
         if !part.octets.is_empty() {
             push_header(&mut text, wanted, &part, path.len())?;
             push_name(&mut text, wanted, around.as_slice(), path)?;
-            push_value(&mut text, alloc, wanted, &part)?;
+            push_value(&mut text, alloc, known, wanted, &part)?;
         }
         around.push(part.id)?;
     }
@@ -89,13 +108,14 @@ fn push_name(
 fn push_value(
     text: &mut String,
     alloc: Global,
+    known: &Known<'_>,
     wanted: &MessageType<'_>,
     part: &Part<'_>,
 ) -> Result<(), AllocError> {
     let shown = match type_at(wanted.schema.types(), part.id) {
         Some(Type::Any { .. } | Type::Unknown) => Hexadecimal::new(part.octets).to_string(alloc)?,
         Some(ty @ (Type::Leaf { .. } | Type::Enumerated { .. })) => {
-            part_text(alloc, wanted, part, ty)?
+            part_text(alloc, known, wanted, part, ty)?
         }
         Some(
             Type::Tagged { .. }
@@ -113,12 +133,13 @@ fn push_value(
 /// Returns the value of a part of this type, which holds no others, as text.
 fn part_text(
     alloc: Global,
+    known: &Known<'_>,
     wanted: &MessageType<'_>,
     part: &Part<'_>,
     ty: &Type,
 ) -> Result<String, AllocError> {
     match decode(alloc, wanted.rule, wanted.schema, part.id, part.octets) {
-        Ok(value) => leaf_text(alloc, Some(ty), &value),
+        Ok(value) => leaf_text(alloc, known, Some(ty), &value, false),
         Err(error) if error.is_out_of_memory() => Err(AllocError),
         Err(_) => Hexadecimal::new(part.octets).to_string(alloc),
     }

@@ -9,31 +9,43 @@ use std::alloc::{AllocError, Global};
 /// The number of octets after which a line of a dump may have two blanks in place of one.
 const HALF: usize = 8;
 
+/// What a text denotes in hexadecimal digits.
+#[derive(Drop)]
+pub(crate) enum Digits {
+    /// These octets.
+    Octets(Vec<u8>),
+    /// Nothing: it is digits and white space, and a digit is left over.
+    Odd,
+    /// Nothing: there is something else.
+    Other,
+}
+
 /// Returns whether a text is hexadecimal digits and white space.
-pub(crate) fn is_hexadecimal(text: &[u8]) -> bool {
+fn is_hexadecimal(text: &[u8]) -> bool {
     text.iter().all(|octet| octet.is_ascii_hexdigit() || octet.is_ascii_whitespace())
 }
 
-/// Returns the octets that a text denotes in hexadecimal digits; `None` if there is something else.
-/// It is one of
+/// Returns the octets that a text denotes in hexadecimal digits, if it is one of
 ///
 /// - a dump, as `xxd`, `hexdump -C`, `od -t x1`, tcpdump and Wireshark print it;
 /// - digits with white space anywhere;
 /// - octets of one or two digits, also after `0x` or `\x`, or several of two, between which are white
 ///   space, colons, commas, semicolons and quotation marks; if there are braces, what is in them.
-pub(crate) fn from_digits(alloc: Global, text: &[u8]) -> Result<Option<Vec<u8>>, AllocError> {
-    let dumped = from_dump(alloc, text)?;
-    if dumped.is_some() {
-        return Ok(dumped);
+pub(crate) fn from_digits(alloc: Global, text: &[u8]) -> Result<Digits, AllocError> {
+    if let Some(octets) = from_dump(alloc, text)? {
+        return Ok(Digits::Octets(octets));
     }
     if is_hexadecimal(text) {
         return from_hexadecimal(alloc, text);
     }
-    from_list(alloc, text)
+    match from_list(alloc, text)? {
+        Some(octets) => Ok(Digits::Octets(octets)),
+        None => Ok(Digits::Other),
+    }
 }
 
 /// Returns the octets of digits between which white space may be, unless there is an odd number.
-fn from_hexadecimal(alloc: Global, text: &[u8]) -> Result<Option<Vec<u8>>, AllocError> {
+fn from_hexadecimal(alloc: Global, text: &[u8]) -> Result<Digits, AllocError> {
     let mut digits = Vec::new(alloc);
     for octet in text {
         if !octet.is_ascii_whitespace() {
@@ -41,9 +53,9 @@ fn from_hexadecimal(alloc: Global, text: &[u8]) -> Result<Option<Vec<u8>>, Alloc
         }
     }
     match hex::decode(alloc, &digits) {
-        Ok(octets) => Ok(Some(octets)),
+        Ok(octets) => Ok(Digits::Octets(octets)),
         Err(FromHexError::OutOfMemory) => Err(AllocError),
-        Err(_) => Ok(None),
+        Err(_) => Ok(Digits::Odd),
     }
 }
 

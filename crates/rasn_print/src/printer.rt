@@ -1,17 +1,26 @@
 //! Values as indented lines with the names of a schema.
+ghost use Rattle.std.specs.Prelude.{◌≡◌, IfSome};
+ghost use Rattle.rasn_print.specs.Queries.{IsAround};
 
-use crate::dump::{End, Entries, Entry, primitive_text, push_entry, push_indent};
-use crate::identifiers::{identifier_name, identifier_text};
+pub(crate) mod large;
+pub(crate) mod object;
+
+use crate::dump::{End, Entries, Entry, are_entries, primitive_text, push_entry, push_indent};
+use crate::fault::CallFault;
+use crate::identifiers::{built_in_name, identifier_text};
 use crate::known::{Form, Known};
-use crate::leaf::leaf_text;
+use crate::leaf::{digits_text, leaf_text, string_text};
 use crate::name::name_text;
 use crate::refusal_text::text_of;
 use crate::types::MessageType;
+use crate::work::Shown;
+use large::Lines;
 use rasn_dynamic::decode;
 use rasn_schema::{LeafKind, Schema, Type, TypeId, Value, View, part_name, part_type, type_at};
-use rasn_types::types::{Codec, Hexadecimal};
+use rasn_types::types::{Codec, ObjectIdentifier};
 use std::alloc::{AllocError, Global};
 use std::fmt;
+use std::io::Write;
 use std::net::{Ipv4Addr, Ipv6Addr};
 
 /// How many values may be in one another, those in open types among them. A CHOICE and what is in an
@@ -24,9 +33,9 @@ const MESSAGE_LEVELS: usize = 128;
 
 /// Where a value is printed.
 #[derive(Clone, Copy)]
-struct Place<'a> {
+struct LinePlace<'a> {
     alloc: Global,
-    known: &'a Known,
+    known: &'a Known<'a>,
     /// The rules by which octets inside open types are read.
     rule: Codec,
     /// How many more values may be in one another.
@@ -39,6 +48,21 @@ struct Place<'a> {
     hint: Option<&'static str>,
 }
 
+impl<'a> LinePlace<'a> {
+    /// Returns where a message with this title is printed.
+    fn of(alloc: Global, known: &'a Known<'a>, rule: Codec, title: &'a str) -> LinePlace<'a> {
+        LinePlace {
+            alloc,
+            known,
+            rule,
+            levels: LEVELS,
+            depth: 0,
+            title,
+            hint: None,
+        }
+    }
+}
+
 /// Whether there was memory for what is appended.
 type Appended = Result<(), AllocError>;
 
@@ -48,26 +72,73 @@ type Appended = Result<(), AllocError>;
 /// `AllocError` if memory runs out.
 pub fn value_text(
     alloc: Global,
-    known: &Known,
+    known: &Known<'_>,
     wanted: &MessageType<'_>,
     value: &Value<'_>,
 ) -> Result<String, AllocError> {
-    let place = Place {
-        alloc,
-        known,
-        rule: wanted.rule,
-        levels: LEVELS,
-        depth: 0,
-        title: wanted.name,
-        hint: None,
-    };
+    let place = LinePlace::of(alloc, known, wanted.rule, wanted.name);
     let mut text = String::new(alloc);
     print(&mut text, place, &wanted.schema.view(wanted.root, value))?;
     Ok(text)
 }
 
+/// Writes the value of this type that octets encode as the same lines, as soon as there are some.
+///
+/// # Errors
+/// `Write` or `Closed` if they can't be written, `Memory` if memory runs out.
+pub(crate) fn write_large<W: Write + Drop>(
+    lines: &mut Lines<'_, W>,
+    alloc: Global,
+    known: &Known<'_>,
+    shown: &Shown,
+    octets: &[u8],
+) -> Result<(), CallFault> {
+    let place = LinePlace::of(alloc, known, shown.rule, shown.name.as_str());
+    large::write(lines, place, &known.schema, shown.root, octets)?;
+    lines.text.push_str(shown.end.as_str())?;
+    lines.flush(alloc)
+}
+
+/// Returns a value in a line, if it is one that holds no others, a name or an address: a character
+/// string as it is, and other values as `value_text` has them.
+///
+/// # Errors
+/// `AllocError` if memory runs out.
+pub(crate) fn line_text(
+    alloc: Global,
+    known: &Known<'_>,
+    title: &str,
+    view: &View<'_, '_>,
+) -> Result<Option<String>, AllocError> {
+    let place = LinePlace::of(alloc, known, Codec::Ber, title);
+    let mut title = String::from_str(alloc, title)?;
+    let (inner, shown) = innermost(&mut title, place, view)?;
+    if shown.is_some() {
+        return Ok(shown);
+    }
+    match type_at(inner.schema.types(), inner.type_id) {
+        Some(ty @ (Type::Leaf { .. } | Type::Enumerated { .. })) => {
+            match string_text(alloc, Some(ty), inner.value)? {
+                Some(text) => Ok(Some(text)),
+                None => Ok(Some(leaf_text(alloc, known, Some(ty), inner.value, known.is_cut)?)),
+            }
+        }
+        Some(
+            Type::Tagged { .. }
+            | Type::Choice { .. }
+            | Type::Sequence { .. }
+            | Type::Set { .. }
+            | Type::SequenceOf { .. }
+            | Type::SetOf { .. }
+            | Type::Any { .. }
+            | Type::Unknown,
+        )
+        | None => Ok(None),
+    }
+}
+
 /// Appends a line of a title and a value.
-fn push_line<T: fmt::Display>(text: &mut String, place: Place<'_>, value: &T) -> Appended {
+fn push_line<T: fmt::Display>(text: &mut String, place: LinePlace<'_>, value: &T) -> Appended {
     let title = place.title;
     push_indent(text, place.depth)?;
     writeln!(text, "{title}: {value}")
@@ -76,7 +147,7 @@ fn push_line<T: fmt::Display>(text: &mut String, place: Place<'_>, value: &T) ->
 /// Appends the lines of a value. The names of the alternatives that it is of CHOICEs in one another
 /// follow the title.
 #[cycle(print)]
-fn print(text: &mut String, place: Place<'_>, view: &View<'_, '_>) -> Appended {
+fn print(text: &mut String, place: LinePlace<'_>, view: &View<'_, '_>) -> Appended {
     if place.levels == 0 {
         return push_line(text, place, &"..");
     }
@@ -84,7 +155,7 @@ fn print(text: &mut String, place: Place<'_>, view: &View<'_, '_>) -> Appended {
     let mut title = String::from_str(place.alloc, place.title)?;
     let (inner, shown) = innermost(&mut title, place, view)?;
     let title = title.as_str();
-    let place = Place {
+    let place = LinePlace {
         levels,
         title,
         ..place
@@ -99,7 +170,7 @@ fn print(text: &mut String, place: Place<'_>, view: &View<'_, '_>) -> Appended {
 /// appends the names of the alternatives to the title.
 fn innermost<'view, 'input>(
     title: &mut String,
-    place: Place<'_>,
+    place: LinePlace<'_>,
     view: &View<'view, 'input>,
 ) -> Result<(View<'view, 'input>, Option<String>), AllocError> {
     let mut inner = view.schema.view(view.type_id, view.value);
@@ -120,7 +191,12 @@ fn innermost<'view, 'input>(
 
 /// Returns what is in an explicit tag, or the alternative of a CHOICE with its name, which is empty
 /// if it is the only one. Returns `None` of other values.
-fn inside<'view, 'input>(view: &View<'view, 'input>) -> Option<(&'view str, View<'view, 'input>)> {
+pub(crate) fn inside<'view, 'input>(
+    view: &View<'view, 'input>,
+) -> Option<(&'view str, View<'view, 'input>)>
+    ensures part { IfSome result (λ found. IsAround view.now.schema.now.types.items view.now.type_id.0 view.now.value.now found.1.type_id found.1.value.now) }
+    ensures schema { IfSome result (λ found. found.1.schema.now ≡ view.now.schema.now) }
+{
     let ty = type_at(view.schema.types(), view.type_id)?;
     if let Type::Tagged { inner, .. } = ty {
         return Some(("", view.schema.view(*inner, view.value)));
@@ -137,7 +213,7 @@ fn inside<'view, 'input>(view: &View<'view, 'input>) -> Option<(&'view str, View
 
 /// Appends the lines of a value that is in no CHOICE and no explicit tag any more.
 #[cycle(print)]
-fn print_by(text: &mut String, place: Place<'_>, view: &View<'_, '_>) -> Appended {
+fn print_by(text: &mut String, place: LinePlace<'_>, view: &View<'_, '_>) -> Appended {
     let value = view.value;
     let Some(ty) = type_at(view.schema.types(), view.type_id) else {
         return Ok(());
@@ -152,7 +228,14 @@ fn print_by(text: &mut String, place: Place<'_>, view: &View<'_, '_>) -> Appende
             print_octets(text, place, value, Form::Bits)
         }
         Type::Leaf { .. } | Type::Enumerated { .. } => {
-            push_line(text, place, &leaf_text(place.alloc, Some(ty), value)?)
+            let shown = leaf_text(
+                place.alloc,
+                place.known,
+                Some(ty),
+                value,
+                place.known.is_cut,
+            )?;
+            push_line(text, place, &shown)
         }
         Type::Sequence { .. } | Type::Set { .. } | Type::SequenceOf { .. } | Type::SetOf { .. } =>
             print_parts(text, place, view.schema, ty, parts_of(value)),
@@ -185,7 +268,7 @@ fn parts_of<'value, 'input>(value: &'value Value<'input>) -> &'value [Value<'inp
 #[cycle(print)]
 fn print_parts<'view>(
     text: &mut String,
-    place: Place<'_>,
+    place: LinePlace<'_>,
     schema: &'view Schema,
     ty: &Type,
     values: &'view [Value<'_>],
@@ -205,7 +288,7 @@ fn print_parts<'view>(
             Some(name) => String::from_str(place.alloc, name)?,
             None => format!(in place.alloc; "[{index}]")?,
         };
-        let part = Place {
+        let part = LinePlace {
             depth: place.depth.saturating_add(1),
             title: title.as_str(),
             hint,
@@ -219,7 +302,7 @@ fn print_parts<'view>(
 /// Appends the line of the title of components or elements.
 fn print_heading(
     text: &mut String,
-    place: Place<'_>,
+    place: LinePlace<'_>,
     is_list: bool,
     values: &[Value<'_>],
 ) -> Appended {
@@ -227,8 +310,14 @@ fn print_heading(
         return push_line(text, place, &"empty");
     }
     if let (false, Some(Value::Arcs(identifier))) = (is_list, values.first()) {
-        return push_line(text, place, &identifier_text(place.alloc, identifier)?);
+        let shown = identifier_text(place.alloc, place.known, identifier)?;
+        return push_line(text, place, &shown);
     }
+    print_title(text, place)
+}
+
+/// Appends a line of a title.
+fn print_title(text: &mut String, place: LinePlace<'_>) -> Appended {
     let title = place.title;
     push_indent(text, place.depth)?;
     writeln!(text, "{title}")
@@ -237,7 +326,12 @@ fn print_heading(
 /// Appends the lines of octets: of the value whose encoding they are, if the identifier beside them
 /// says its type.
 #[cycle(print)]
-fn print_octets(text: &mut String, place: Place<'_>, value: &Value<'_>, form: Form) -> Appended {
+fn print_octets(
+    text: &mut String,
+    place: LinePlace<'_>,
+    value: &Value<'_>,
+    form: Form,
+) -> Appended {
     if let Value::Bits(bits) = value {
         let mut octets = Vec::new(place.alloc);
         bits.as_bitstr().append_to(&mut octets)?;
@@ -253,7 +347,7 @@ fn print_octets(text: &mut String, place: Place<'_>, value: &Value<'_>, form: Fo
 #[cycle(print)]
 fn print_held(
     text: &mut String,
-    place: Place<'_>,
+    place: LinePlace<'_>,
     value: &Value<'_>,
     form: Form,
     octets: &[u8],
@@ -268,20 +362,24 @@ fn print_held(
         if form == Form::Open {
             return print_encoding(text, place, octets);
         }
-        return push_line(text, place, &leaf_text(alloc, None, value)?);
+        return push_line(
+            text,
+            place,
+            &leaf_text(alloc, known, None, value, known.is_cut)?,
+        );
     };
     match decode(alloc, place.rule, &known.schema, id, octets) {
         Ok(value) => {
             let hint = None;
             print(
                 text,
-                Place { hint, ..place },
+                LinePlace { hint, ..place },
                 &known.schema.view(id, &value),
             )
         }
         Err(error) if error.is_out_of_memory() => Err(AllocError),
         Err(error) => {
-            let shown = Hexadecimal::new(octets);
+            let shown = digits_text(alloc, octets, known.is_cut)?;
             let cause = text_of(alloc, &error, octets, End::Input)?;
             let shown = format!(in alloc; "{shown} (not of {hint}: {cause})")?;
             push_line(text, place, &shown)
@@ -290,7 +388,7 @@ fn print_held(
 }
 
 /// Appends the lines of unknown values, each of which is an encoding.
-fn print_additions(text: &mut String, place: Place<'_>, value: &Value<'_>) -> Appended {
+fn print_additions(text: &mut String, place: LinePlace<'_>, value: &Value<'_>) -> Appended {
     let Value::Items(values) = value else {
         return Ok(());
     };
@@ -302,25 +400,14 @@ fn print_additions(text: &mut String, place: Place<'_>, value: &Value<'_>) -> Ap
     Ok(())
 }
 
-/// Returns whether the header of each encoding of octets can be read.
-fn are_entries(alloc: Global, octets: &[u8]) -> Result<bool, AllocError> {
-    let mut entries = Entries::new(alloc, octets);
-    // Each encoding has an octet of its own.
-    for _ in octets {
-        match entries.next() {
-            Ok(Some(_)) => {}
-            Ok(None) => return Ok(true),
-            Err(error) if error.is_out_of_memory() => return Err(AllocError),
-            Err(_) => return Ok(false),
-        }
-    }
-    Ok(true)
-}
-
 /// Appends the lines of an encoding of a type that isn't known.
-fn print_encoding(text: &mut String, place: Place<'_>, octets: &[u8]) -> Appended {
-    if !are_entries(place.alloc, octets)? {
-        return push_line(text, place, &Hexadecimal::new(octets));
+fn print_encoding(text: &mut String, place: LinePlace<'_>, octets: &[u8]) -> Appended {
+    let Ok(is_whole) = are_entries(place.alloc, octets) else {
+        return Err(AllocError);
+    };
+    if !is_whole {
+        let shown = digits_text(place.alloc, octets, place.known.is_cut)?;
+        return push_line(text, place, &shown);
     }
     let mut entries = Entries::new(place.alloc, octets);
     for _ in octets {
@@ -334,7 +421,7 @@ fn print_encoding(text: &mut String, place: Place<'_>, octets: &[u8]) -> Appende
 }
 
 /// Appends the line of an encoding in an open type, whose title the outermost one has.
-fn print_entry(text: &mut String, place: Place<'_>, entry: &Entry<'_>) -> Appended {
+fn print_entry(text: &mut String, place: LinePlace<'_>, entry: &Entry<'_>) -> Appended {
     push_indent(text, place.depth.saturating_add(entry.depth))?;
     if entry.depth == 0 {
         let title = place.title;
@@ -352,15 +439,23 @@ fn print_entry(text: &mut String, place: Place<'_>, entry: &Entry<'_>) -> Append
 /// component that is an OBJECT IDENTIFIER or begins with one, as an AlgorithmIdentifier.
 fn hint_of(values: &[Value<'_>]) -> Option<&'static str> {
     for value in values {
-        let first = match value {
-            Value::Items(parts) => parts.first(),
-            value => Some(value),
-        };
-        if let Some(Value::Arcs(identifier)) = first {
-            return identifier_name(identifier.arcs());
+        if let Some(identifier) = identifier_in(value) {
+            return built_in_name(identifier.arcs());
         }
     }
     None
+}
+
+/// Returns the OBJECT IDENTIFIER that a value is or begins with.
+fn identifier_in<'value>(value: &'value Value<'_>) -> Option<&'value ObjectIdentifier> {
+    let first = match value {
+        Value::Items(parts) => parts.first(),
+        value => Some(value),
+    };
+    match first {
+        Some(Value::Arcs(identifier)) => Some(identifier),
+        _ => None,
+    }
 }
 
 /// Returns the name of a type of a schema.
@@ -369,19 +464,27 @@ fn name_of_type(schema: &Schema, id: TypeId) -> Option<&str> {
     Some(named.name.as_str())
 }
 
+/// Returns whether values of a type are distinguished names or what these are made of.
+fn is_name(schema: &Schema, id: TypeId) -> bool {
+    matches!(
+        name_of_type(schema, id),
+        Some("RDNSequence" | "RelativeDistinguishedName")
+    )
+}
+
 /// Returns a value in one line, if it reads better so: distinguished names and addresses.
 fn short_text(
-    place: Place<'_>,
+    place: LinePlace<'_>,
     title: &str,
     view: &View<'_, '_>,
 ) -> Result<Option<String>, AllocError> {
     let (alloc, value) = (place.alloc, view.value);
-    let name = name_of_type(view.schema, view.type_id).unwrap_or("");
-    if name == "RDNSequence" || name == "RelativeDistinguishedName" {
+    if is_name(view.schema, view.type_id) {
         return name_text(alloc, place.known, value);
     }
     if let Value::Octets(octets) = value {
-        if name == "IpAddress" || title.ends_with("iPAddress") {
+        let name = name_of_type(view.schema, view.type_id);
+        if name == Some("IpAddress") || title.ends_with("iPAddress") {
             return address_text(alloc, octets.as_slice());
         }
     }

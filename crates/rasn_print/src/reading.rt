@@ -109,7 +109,7 @@ pub(crate) fn read_alone<'input>(
 /// As [`check`].
 pub fn show(
     alloc: Global,
-    known: &Known,
+    known: &Known<'_>,
     wanted: &MessageType<'_>,
     octets: &[u8],
 ) -> Result<String, Refusal>

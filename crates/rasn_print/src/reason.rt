@@ -1,4 +1,6 @@
 //! Why a message is refused, and where.
+ghost use Rattle.std.specs.Prelude.{◌≡◌, ◌++◌, IfOk, OnOk, string_bytes};
+ghost use Rattle.rasn_print.specs.Reasons.{IsOfNoPlace, guess_text, path_text, byte_text, advice_text, line_of};
 
 use json::Writer;
 use rasn_dynamic::Refusal;
@@ -28,7 +30,9 @@ impl Reason {
     ///
     /// # Errors
     /// `AllocError` if memory runs out.
-    pub(crate) fn of<T: fmt::Display>(alloc: Global, text: &T) -> Result<Reason, AllocError> {
+    pub(crate) fn of<T: fmt::Display>(alloc: Global, text: &T) -> Result<Reason, AllocError>
+        ensures { IfOk result IsOfNoPlace }
+    {
         Ok(Reason {
             guess: None,
             path: String::new(alloc),
@@ -41,22 +45,15 @@ impl Reason {
     ///
     /// # Errors
     /// `AllocError` if memory runs out.
-    pub(crate) fn to_line(&self, alloc: Global) -> Result<String, AllocError> {
-        let (path, text) = (&self.path, &self.text);
+    pub(crate) fn to_line(&self, alloc: Global) -> Result<String, AllocError>
+        ensures { IfOk result (λ line. string_bytes line ≡ line_of self.now) }
+    {
         let mut line = String::new(alloc);
-        if let Some(name) = &self.guess {
-            write!(line, "looks like {name}: ")?;
-        }
-        if !path.is_empty() {
-            write!(line, "{path}, ")?;
-        }
-        if let Some(byte) = self.byte {
-            write!(line, "byte {byte}: ")?;
-        }
-        line.push_str(text.as_str())?;
-        if self.guess.is_some() {
-            write!(line, "; {ADVICE}")?;
-        }
+        push_guess(&mut line, &self.guess)?;
+        push_path(&mut line, self.path.as_str())?;
+        push_byte(&mut line, self.byte)?;
+        line.push_str(self.text.as_str())?;
+        push_advice(&mut line, &self.guess)?;
         Ok(line)
     }
 
@@ -89,6 +86,46 @@ impl Reason {
             Ok(text) => visible(alloc, Escaping::Json, text.as_str()),
             Err(_) => Ok(String::new(alloc)),
         }
+    }
+}
+
+/// Appends the type that a message seems to be of.
+fn push_guess(line: &mut String, guess: &Option<String>) -> Result<(), AllocError>
+    ensures { OnOk result (string_bytes line.new ≡ string_bytes line.old ++ guess_text guess.now) }
+{
+    match guess {
+        Some(name) => write!(line, "looks like {name}: "),
+        None => Ok(()),
+    }
+}
+
+/// Appends the names on the way to a part.
+fn push_path(line: &mut String, path: &str) -> Result<(), AllocError>
+    ensures { OnOk result (string_bytes line.new ≡ string_bytes line.old ++ path_text path.now) }
+{
+    if path.is_empty() {
+        return Ok(());
+    }
+    write!(line, "{path}, ")
+}
+
+/// Appends where a part begins.
+fn push_byte(line: &mut String, byte: Option<usize>) -> Result<(), AllocError>
+    ensures { OnOk result (string_bytes line.new ≡ string_bytes line.old ++ byte_text byte) }
+{
+    match byte {
+        Some(byte) => write!(line, "byte {byte}: "),
+        None => Ok(()),
+    }
+}
+
+/// Appends how the type of a message is named, if it was guessed.
+fn push_advice(line: &mut String, guess: &Option<String>) -> Result<(), AllocError>
+    ensures { OnOk result (string_bytes line.new ≡ string_bytes line.old ++ advice_text guess.now) }
+{
+    match guess {
+        Some(_) => write!(line, "; {ADVICE}"),
+        None => Ok(()),
     }
 }
 

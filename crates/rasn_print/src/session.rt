@@ -1,17 +1,26 @@
 //! Goes over the messages of inputs.
+ghost use Rattle.std.specs.Prelude.{◌≡◌, ◌<◌, true, length};
 
-use crate::command_line::Work;
-use crate::dump::{Entries, Entry, entry_line, fault_text};
-use crate::fault::Fault;
-use crate::input::{Form, form_of, from_line, is_plain_text, why_not_hexadecimal, without_mark};
+use crate::catalog::{Catalog, candidates_for};
+use crate::command_line::{Call, Work};
+use crate::dump::{Entries, Entry, entry_line, fault_text, first_encoding};
+use crate::fault::CallFault;
+use crate::input::{Form, form_of, form_of_line, is_plain_text, without_mark};
+use crate::known::Candidates;
 use crate::messages::{TRUST, TRUSTED};
+use crate::page::{page_block, page_head, refused_data};
 use crate::pasted::unindented;
 use crate::pem_fault::block_fault;
+use crate::printer::large::Lines;
+use crate::printer::write_large;
+use crate::query::{cell_text, row_text};
 use crate::reason::Reason;
-use crate::work::{Answer, Context, Input, answer_to, printed};
-use rasn_de::ber::de::{Decoder, DecoderOptions};
+use crate::values::first_value;
+use crate::work::{
+    Answer, Context, Input, Shown, answer_of_first, answer_to, is_of_first, printed,
+};
+use json::Scratch;
 use rasn_text::{Block, Escaping, visible};
-use rasn_types::types::Codec;
 use std::alloc::{AllocError, Global};
 use std::io::{self, BufRead, ErrorKind, Write};
 use std::{fmt, slice, str};
@@ -21,27 +30,35 @@ const NO_FORM: &str = "; the input is text, but neither PEM, hexadecimal digits 
 
 /// Processes messages, and prints the results.
 #[derive(Drop)]
-pub struct Session<'a, W: Write + Drop, E: Write + Drop> {
-    pub context: Context<'a>,
+pub struct Session<'call, 'read, 'text, W: Write + Drop, E: Write + Drop> {
+    pub alloc: Global,
+    pub call: &'call Call,
+    pub catalog: Catalog<'read, 'text>,
+    /// Whether names are in bold.
+    pub is_colored: bool,
     pub output: W,
     pub refusals: E,
     /// Whether a message was refused.
     pub is_refused: bool,
 }
 
-impl<W: Write + Drop, E: Write + Drop> Session<'_, W, E> {
+impl<W: Write + Drop, E: Write + Drop> Session<'_, '_, '_, W, E> {
     /// Writes octets.
-    fn write(&mut self, octets: &[u8]) -> Result<(), Fault> {
-        self.output.write_all(octets).map_err(Fault::of_write)
+    fn write(&mut self, octets: &[u8]) -> Result<(), CallFault>
+        ensures { self.new.is_refused ≡ self.old.is_refused }
+    {
+        self.output.write_all(octets).map_err(CallFault::of_write)
     }
 
     /// Writes why a message of the input with this name is refused.
-    fn refuse<T: fmt::Display>(&mut self, name: &str, reason: &T) -> Result<(), Fault> {
+    fn refuse<T: fmt::Display>(&mut self, name: &str, reason: &T) -> Result<(), CallFault>
+        ensures { self.new.is_refused ≡ true }
+    {
         self.is_refused = true;
-        let line = line_of(self.context.alloc, name, reason)?;
+        let line = line_of(self.alloc, name, reason)?;
         self.refusals
             .write_all(line.as_bytes())
-            .map_err(Fault::of_write)
+            .map_err(CallFault::of_write)
     }
 
     /// Flushes the output.
@@ -49,8 +66,10 @@ impl<W: Write + Drop, E: Write + Drop> Session<'_, W, E> {
     /// # Errors
     /// `Write` if it can't be written, `Closed` if its reader has gone, `Memory` if memory runs
     /// out.
-    pub fn flush(&mut self) -> Result<(), Fault> {
-        self.output.flush().map_err(Fault::of_write)
+    pub fn flush(&mut self) -> Result<(), CallFault>
+        ensures { self.new.is_refused ≡ self.old.is_refused }
+    {
+        self.output.flush().map_err(CallFault::of_write)
     }
 
     /// Works on the messages of an input. A message that is refused sets `is_refused` and is no
@@ -58,23 +77,55 @@ impl<W: Write + Drop, E: Write + Drop> Session<'_, W, E> {
     ///
     /// # Errors
     /// As `flush`.
-    pub fn input(&mut self, name: &str, octets: &[u8]) -> Result<(), Fault> {
-        let alloc = self.context.alloc;
+    pub fn input(&mut self, name: &str, octets: &[u8]) -> Result<(), CallFault> {
+        let alloc = self.alloc;
         let plain = unindented(alloc, without_mark(octets))?;
         let text = match &plain {
             Some(text) => text.as_slice(),
             None => without_mark(octets),
         };
-        let is_headed = self.context.call.work == Work::Show && self.context.call.files.len() > 1;
-        match form_of(alloc, self.context.call, text)? {
+        let is_headed = self.call.has_headings() && self.call.files.len() > 1;
+        match form_of(alloc, self.call, text)? {
             Form::Pem(blocks) => self.pem(name, text, blocks.as_slice(), is_headed),
             Form::Text(octets) => self.octets(name, &octets, true, is_headed),
             Form::Wrong(reason) => self.refuse(name, &reason),
-            Form::Octets if self.context.call.work == Work::Encode => {
-                self.message(name, text, None, false, is_headed)
-            }
+            Form::Octets if self.call.work == Work::Encode => self.values(name, text),
             Form::Octets => self.octets(name, octets, false, is_headed),
         }
+    }
+
+    /// Works on each of the JSON values that follow one another in a text. Those after the first are
+    /// named by the line in which they begin.
+    fn values(&mut self, name: &str, octets: &[u8]) -> Result<(), CallFault> {
+        let alloc = self.alloc;
+        let text = str::from_utf8(octets).unwrap_or("");
+        if text.is_empty() {
+            return self.message(name, &Input::of(octets), false);
+        }
+        let mut scratch = Scratch::new(alloc);
+        let (mut start, mut line) = (0usize, 1usize);
+        // Each value has an octet of its own.
+        for _ in octets {
+            let (before, rest) = text.split_at_checked(start).unwrap_or((text, ""));
+            if rest.is_empty() {
+                break;
+            }
+            let value = first_value(rest, &mut scratch)?;
+            if value.len() == rest.len() {
+                // The last value needs none of it.
+                scratch = Scratch::new(alloc);
+            }
+            let input = Input {
+                before,
+                ..Input::of(value.as_bytes())
+            };
+            let named = format!(in alloc; "{name}, line {line}")?;
+            let name = if start == 0 { name } else { named.as_str() };
+            self.message(name, &input, false)?;
+            start = start.saturating_add(value.len());
+            line = line.saturating_add(value.matches('\n').count());
+        }
+        Ok(())
     }
 
     /// Works on the message that octets are or, if several are in a row, on each of them and on what
@@ -85,12 +136,16 @@ impl<W: Write + Drop, E: Write + Drop> Session<'_, W, E> {
         octets: &[u8],
         is_text: bool,
         is_headed: bool,
-    ) -> Result<(), Fault> {
-        if !self.context.call.is_stream {
-            return self.message(name, octets, None, is_text, is_headed);
+    ) -> Result<(), CallFault> {
+        if !self.call.is_stream {
+            let input = Input {
+                is_text,
+                ..Input::of(octets)
+            };
+            return self.message(name, &input, is_headed);
         }
-        let alloc = self.context.alloc;
-        let is_headed = self.context.call.work == Work::Show;
+        let alloc = self.alloc;
+        let is_headed = self.call.has_headings();
         let mut rest = octets;
         // Each encoding has an octet of its own.
         for _ in octets {
@@ -100,7 +155,11 @@ impl<W: Write + Drop, E: Write + Drop> Session<'_, W, E> {
             let offset = octets.len().saturating_sub(rest.len());
             let name = format!(in alloc; "{name}, byte {offset}")?;
             let (first, after) = first_encoding(alloc, rest);
-            self.message(name.as_str(), first, None, is_text, is_headed)?;
+            let input = Input {
+                is_text,
+                ..Input::of(first)
+            };
+            self.message(name.as_str(), &input, is_headed)?;
             rest = after;
         }
         Ok(())
@@ -114,9 +173,9 @@ impl<W: Write + Drop, E: Write + Drop> Session<'_, W, E> {
         text: &[u8],
         blocks: &[Block<'_>],
         is_headed: bool,
-    ) -> Result<(), Fault> {
-        let alloc = self.context.alloc;
-        let is_headed = is_headed || (self.context.call.work == Work::Show && blocks.len() > 1);
+    ) -> Result<(), CallFault> {
+        let alloc = self.alloc;
+        let is_headed = is_headed || (self.call.has_headings() && blocks.len() > 1);
         if blocks.is_empty() {
             return self.refuse(name, &"no line -----BEGIN LABEL-----");
         }
@@ -127,10 +186,10 @@ impl<W: Write + Drop, E: Write + Drop> Session<'_, W, E> {
             match &block.contents {
                 Ok(octets) => {
                     let (first, trust) = self.parted(label, octets);
-                    self.message(name.as_str(), first, Some(label), false, is_headed)?;
+                    self.message(name.as_str(), &Input::labelled(first, label), is_headed)?;
                     if !trust.is_empty() {
                         let name = format!(in alloc; "{name}, byte {}", first.len())?;
-                        self.message(name.as_str(), trust, Some(TRUST), false, is_headed)?;
+                        self.message(name.as_str(), &Input::labelled(trust, TRUST), is_headed)?;
                     }
                 }
                 Err(error) => {
@@ -149,55 +208,159 @@ impl<W: Write + Drop, E: Write + Drop> Session<'_, W, E> {
         label: &str,
         octets: &'octets [u8],
     ) -> (&'octets [u8], &'octets [u8]) {
-        let call = self.context.call;
+        let call = self.call;
         if label != TRUSTED || call.type_name.is_some() || call.work == Work::Dump {
             return (octets, &[]);
         }
-        first_encoding(self.context.alloc, octets)
+        first_encoding(self.alloc, octets)
     }
 
-    /// Works on a message, which may be in a block of PEM with this label or handed over as text, and
-    /// writes its name before it if that is wanted.
-    fn message(
-        &mut self,
-        name: &str,
-        octets: &[u8],
-        label: Option<&str>,
-        is_text: bool,
-        is_headed: bool,
-    ) -> Result<(), Fault> {
-        if self.context.call.work == Work::Dump {
-            return self.dump(name, octets);
+    /// Works on a message, and writes its name before it if that is wanted.
+    fn message(&mut self, name: &str, input: &Input<'_>, is_headed: bool) -> Result<(), CallFault> {
+        if self.call.work == Work::Dump {
+            return self.dump(name, input.octets);
         }
-        let input = Input {
-            octets,
-            label,
-            is_text,
-        };
-        match answer_to(&self.context, &input)? {
+        match self.answer(input)? {
+            Answer::Done(data) if self.call.has_html => {
+                let block = page_block(self.alloc, name, &data)?;
+                self.write(&block)
+            }
             Answer::Done(octets) => {
-                if is_headed {
-                    let heading = visible(self.context.alloc, Escaping::Line, name)?;
-                    writeln!(self.output, "{heading}").map_err(Fault::of_write)?;
+                if self.call.work == Work::Table {
+                    self.write_cell(name)?;
                 }
+                self.write_name(name, is_headed)?;
                 self.write(&octets)
+            }
+            Answer::Large(shown) => {
+                self.write_name(name, is_headed)?;
+                self.write_large(&shown, input.octets)
             }
             Answer::Departures(reasons) => self.write_departures(name, reasons.as_slice()),
             Answer::Refused(reason) => {
-                let mut text = reason.to_line(self.context.alloc)?;
-                let is_octets = label.is_none() && !is_text;
-                if is_octets && self.context.call.work != Work::Encode && is_plain_text(octets) {
+                let mut text = reason.to_line(self.alloc)?;
+                let is_octets = input.label.is_none() && !input.is_text;
+                if is_octets && self.call.work != Work::Encode && is_plain_text(input.octets) {
                     text.push_str(NO_FORM)?;
+                }
+                if self.call.has_html {
+                    self.write_refused(name, input.octets, &reason)?;
                 }
                 self.refuse(name, &text)
             }
         }
     }
 
+    /// Writes the block of a message that is refused.
+    fn write_refused(
+        &mut self,
+        name: &str,
+        octets: &[u8],
+        reason: &Reason,
+    ) -> Result<(), CallFault> {
+        let data = refused_data(self.alloc, octets, reason)?;
+        let block = page_block(self.alloc, name, &data)?;
+        self.write(&block)
+    }
+
+    /// Writes the name of a message, if that is wanted.
+    fn write_name(&mut self, name: &str, is_headed: bool) -> Result<(), CallFault> {
+        if !is_headed {
+            return Ok(());
+        }
+        let heading = visible(self.alloc, Escaping::Line, name)?;
+        writeln!(self.output, "{heading}").map_err(CallFault::of_write)
+    }
+
+    /// Writes the lines of a large message, which is of this type.
+    fn write_large(&mut self, shown: &Shown, octets: &[u8]) -> Result<(), CallFault> {
+        let alloc = self.alloc;
+        let index = self.catalog.resolve(alloc, self.call, shown.candidates)?;
+        let mut lines = Lines {
+            output: &mut self.output,
+            text: String::new(alloc),
+            is_colored: self.is_colored,
+        };
+        let known = self.catalog.known(index);
+        write_large(&mut lines, alloc, known, shown, octets)
+    }
+
+    /// Returns what messages are worked on with that may be of the types with this index.
+    fn context(&self, index: usize) -> Context<'_>
+        requires { index < length self.now.catalog.known.items }
+    {
+        Context {
+            alloc: self.alloc,
+            call: self.call,
+            known: self.catalog.known(index),
+            is_colored: self.is_colored,
+        }
+    }
+
+    /// Returns what is printed for a message. While the types that are tried aren't resolved, the
+    /// first of them is tried alone.
+    fn answer(&mut self, input: &Input<'_>) -> Result<Answer, CallFault>
+        ensures { self.new.is_refused ≡ self.old.is_refused }
+    {
+        let (alloc, call) = (self.alloc, self.call);
+        let candidates = candidates_for(call, input.label);
+        if self.catalog.may_try_first(candidates) {
+            let first = self.catalog.resolve(alloc, call, Candidates::First)?;
+            if is_of_first(&self.context(first), input)? {
+                let shown = if call.work == Work::Show {
+                    self.catalog.resolve(alloc, call, Candidates::Labelled(0))?
+                } else {
+                    first
+                };
+                return Ok(answer_of_first(&self.context(shown), input)?);
+            }
+        }
+        let index = self.catalog.resolve(alloc, call, candidates)?;
+        Ok(answer_to(&self.context(index), input)?)
+    }
+
+    /// Writes the first line of a table, if one is asked for, that is the names of its columns, which
+    /// are the paths to the parts; or the beginning of a page.
+    ///
+    /// # Errors
+    /// As `flush`.
+    pub fn begin(&mut self) -> Result<(), CallFault> {
+        let call = self.call;
+        if call.has_html {
+            let head = page_head(self.alloc)?;
+            return self.write(head.as_bytes());
+        }
+        if call.work != Work::Table {
+            return Ok(());
+        }
+        self.write_cell("message")?;
+        let mut cells = Vec::new(self.alloc);
+        for path in &call.paths {
+            cells.push(visible(self.alloc, Escaping::Line, path.as_str())?)?;
+        }
+        let row = row_text(self.alloc, call, cells.as_slice())?;
+        self.write(row.as_bytes())
+    }
+
+    /// Writes the first cell of a row of a table.
+    fn write_cell(&mut self, text: &str) -> Result<(), CallFault> {
+        let text = visible(self.alloc, Escaping::Line, text)?;
+        let cell = cell_text(self.alloc, self.call, text.as_str())?;
+        self.write(cell.as_bytes())
+    }
+
     /// Writes a line for each departure of a message from DER, and how many there are.
-    fn write_departures(&mut self, name: &str, reasons: &[Reason]) -> Result<(), Fault> {
-        let alloc = self.context.alloc;
+    fn write_departures(&mut self, name: &str, reasons: &[Reason]) -> Result<(), CallFault>
+        ensures { self.new.is_refused ≡ true }
+    {
+        let written = self.write_reasons(name, reasons);
         self.is_refused = true;
+        written
+    }
+
+    /// Writes a line for each of these reasons, and how many there are.
+    fn write_reasons(&mut self, name: &str, reasons: &[Reason]) -> Result<(), CallFault> {
+        let alloc = self.alloc;
         for reason in reasons {
             let line = line_of(alloc, name, &reason.to_line(alloc)?)?;
             self.write(line.as_bytes())?;
@@ -214,20 +377,20 @@ impl<W: Write + Drop, E: Write + Drop> Session<'_, W, E> {
     ///
     /// # Errors
     /// As `flush`.
-    pub fn example(&mut self) -> Result<(), Fault> {
-        self.message("example", &[], None, true, false)
+    pub fn example(&mut self) -> Result<(), CallFault> {
+        self.message("example", &Input::of(&[]), false)
     }
 
     /// Prints the encodings of octets, each as soon as it is read.
-    fn dump(&mut self, name: &str, octets: &[u8]) -> Result<(), Fault> {
-        let mut entries = Entries::new(self.context.alloc, octets);
+    fn dump(&mut self, name: &str, octets: &[u8]) -> Result<(), CallFault> {
+        let mut entries = Entries::opened(self.alloc, octets);
         // Each encoding has an octet of its own.
         for _ in octets {
-            match entries.next() {
+            match entries.next_opened() {
                 Ok(Some(entry)) => self.write_entry(&entry)?,
                 Ok(None) => return Ok(()),
                 Err(error) => {
-                    let fault = fault_text(self.context.alloc, &entries, &error)?;
+                    let fault = fault_text(self.alloc, &entries, &error)?;
                     return self.refuse(name, &fault);
                 }
             }
@@ -236,9 +399,10 @@ impl<W: Write + Drop, E: Write + Drop> Session<'_, W, E> {
     }
 
     /// Writes the line of an encoding.
-    fn write_entry(&mut self, entry: &Entry<'_>) -> Result<(), Fault> {
-        let alloc = self.context.alloc;
-        let line = entry_line(alloc, self.context.known, entry)?;
+    fn write_entry(&mut self, entry: &Entry<'_>) -> Result<(), CallFault> {
+        let alloc = self.alloc;
+        let index = self.catalog.resolve(alloc, self.call, Candidates::Nothing)?;
+        let line = entry_line(alloc, self.catalog.known(index), entry)?;
         self.write(printed(alloc, Escaping::Lines, line)?.as_bytes())
     }
 
@@ -248,8 +412,8 @@ impl<W: Write + Drop, E: Write + Drop> Session<'_, W, E> {
     ///
     /// # Errors
     /// As `flush`.
-    pub fn lines<R: BufRead + Drop>(&mut self, name: &str, reader: R) -> Result<(), Fault> {
-        for (index, line) in reader.split(self.context.alloc, b'\n').enumerate() {
+    pub fn lines<R: BufRead + Drop>(&mut self, name: &str, reader: R) -> Result<(), CallFault> {
+        for (index, line) in reader.split(self.alloc, b'\n').enumerate() {
             match line {
                 Ok(line) if without_mark(&line).starts_with(b"-----BEGIN ") => {
                     return self.refuse(name, &"PEM, which is read without --lines");
@@ -262,21 +426,46 @@ impl<W: Write + Drop, E: Write + Drop> Session<'_, W, E> {
     }
 
     /// Writes why the input with this name can't be read.
-    fn unreadable(&mut self, name: &str, error: &io::Error) -> Result<(), Fault> {
+    fn unreadable(&mut self, name: &str, error: &io::Error) -> Result<(), CallFault> {
         if error.kind() == ErrorKind::OutOfMemory {
-            return Err(Fault::Memory);
+            return Err(CallFault::Memory);
         }
-        let reason = format!(in self.context.alloc; "cannot read: {error}")?;
+        let reason = format!(in self.alloc; "cannot read: {error}")?;
         self.refuse(name, &reason)
     }
 
     /// Works on the line with this index: prints its answer, `ok` if that is empty, or why it is
     /// refused.
-    fn line(&mut self, name: &str, index: usize, line: &[u8]) -> Result<(), Fault> {
-        let number = index.saturating_add(1);
-        match self.line_answer(line)? {
+    fn line(&mut self, name: &str, index: usize, line: &[u8]) -> Result<(), CallFault> {
+        let (alloc, number) = (self.alloc, index.saturating_add(1));
+        let line = without_mark(line);
+        match form_of_line(alloc, self.call.work, line)? {
+            Form::Octets | Form::Pem(_) => self.line_message(name, number, line),
+            Form::Text(octets) => self.line_message(name, number, &octets),
+            Form::Wrong(reason) => {
+                let reason = Reason::of(alloc, &reason)?;
+                self.refuse_line(name, number, slice::from_ref(&reason))
+            }
+        }
+    }
+
+    /// Works on the message of the line with this number: the octets that the line denotes, or its
+    /// JSON.
+    fn line_message(&mut self, name: &str, number: usize, octets: &[u8]) -> Result<(), CallFault> {
+        let input = Input {
+            is_text: true,
+            ..Input::of(octets)
+        };
+        match self.answer(&input)? {
             Answer::Done(text) if text.is_empty() => self.write(b"ok\n"),
-            Answer::Done(text) => self.write(&text),
+            Answer::Done(text) => {
+                if self.call.work == Work::Table {
+                    let number = number.to_string(self.alloc)?;
+                    self.write_cell(number.as_str())?;
+                }
+                self.write(&text)
+            }
+            Answer::Large(shown) => self.write_large(&shown, octets),
             Answer::Departures(reasons) => self.refuse_line(name, number, reasons.as_slice()),
             Answer::Refused(reason) => self.refuse_line(name, number, slice::from_ref(&reason)),
         }
@@ -284,9 +473,16 @@ impl<W: Write + Drop, E: Write + Drop> Session<'_, W, E> {
 
     /// Writes for which reasons the line with this number is refused: as objects of JSON if that is
     /// asked for, or else in a line.
-    fn refuse_line(&mut self, name: &str, number: usize, reasons: &[Reason]) -> Result<(), Fault> {
-        let alloc = self.context.alloc;
-        let has_json = self.context.call.has_json_errors;
+    fn refuse_line(
+        &mut self,
+        name: &str,
+        number: usize,
+        reasons: &[Reason],
+    ) -> Result<(), CallFault>
+        ensures { self.new.is_refused ≡ true }
+    {
+        let alloc = self.alloc;
+        let has_json = self.call.has_json_errors;
         self.is_refused = true;
         let mut lines = Vec::new(alloc);
         for reason in reasons {
@@ -298,44 +494,15 @@ impl<W: Write + Drop, E: Write + Drop> Session<'_, W, E> {
         }
         if has_json {
             let text = lines.as_slice().join(alloc, "\n")?;
-            return writeln!(self.output, "{text}").map_err(Fault::of_write);
+            return writeln!(self.output, "{text}").map_err(CallFault::of_write);
         }
         let text = lines.as_slice().join(alloc, "; ")?;
-        if self.context.call.work.prints_data() {
+        if self.call.prints_data() {
             let name = format!(in alloc; "{name}, line {number}")?;
             return self.refuse(name.as_str(), &text);
         }
         let text = visible(alloc, Escaping::Line, text.as_str())?;
-        writeln!(self.output, "{text}").map_err(Fault::of_write)
-    }
-
-    /// Returns what is printed for the octets that a line denotes, or for those of its JSON.
-    fn line_answer(&self, line: &[u8]) -> Result<Answer, AllocError> {
-        let alloc = self.context.alloc;
-        let line = without_mark(line);
-        let Some(octets) = from_line(alloc, self.context.call.work, line)? else {
-            let reason = why_not_hexadecimal(line, "neither hexadecimal nor base64");
-            return Ok(Answer::Refused(Reason::of(alloc, &reason)?));
-        };
-        let input = Input {
-            octets: octets.as_slice(),
-            label: None,
-            is_text: true,
-        };
-        answer_to(&self.context, &input)
-    }
-}
-
-/// Returns the whole encoding with which octets begin, or all of them without one, and what follows
-/// it.
-fn first_encoding(alloc: Global, octets: &[u8]) -> (&[u8], &[u8]) {
-    let mut decoder = Decoder::new(alloc, octets, DecoderOptions::of(Codec::Ber));
-    match decoder.skip_value() {
-        Ok(_) => {
-            let end = octets.len().saturating_sub(decoder.remaining().len());
-            octets.split_at_checked(end).unwrap_or((octets, &[]))
-        }
-        Err(_) => (octets, &[]),
+        writeln!(self.output, "{text}").map_err(CallFault::of_write)
     }
 }
 

@@ -2,7 +2,79 @@
 //! `modules/` and `contents.asn1`.
 
 /// How many modules there are.
-pub const COUNT: usize = 16;
+pub const COUNT: usize = 17;
+
+/// The names of the modules, each with the number of its text.
+pub const MODULES: &[(&str, usize)] = &[
+    ("AsymmetricKeyPackageModuleV1", 11),
+    ("AttributeCertificates", 0),
+    ("CMP", 2),
+    ("CMS", 3),
+    ("CRMF", 2),
+    ("CertificateExtensions", 4),
+    ("Certificates", 1),
+    ("Contents", 16),
+    ("CryptographicMessageSyntax-2009", 11),
+    ("CryptographicMessageSyntax-2010", 11),
+    ("CryptographicMessageSyntax2004", 11),
+    ("Kerberos", 5),
+    ("KerberosV5Spec2", 11),
+    ("Keys", 6),
+    ("LDAP", 7),
+    ("Lightweight-Directory-Access-Protocol-V3", 11),
+    ("OCSP", 8),
+    ("OCSP-2009", 11),
+    ("OCSP-2013-08", 11),
+    ("OCSP-2013-88", 11),
+    ("OpenSSL", 9),
+    ("PKCS-1", 11),
+    ("PKCS-10", 11),
+    ("PKCS-12", 11),
+    ("PKCS-8", 11),
+    ("PKCS12", 10),
+    ("PKIX1Algorithms88", 11),
+    ("PKIX1Explicit-2009", 11),
+    ("PKIX1Explicit88", 11),
+    ("PKIX1Implicit-2009", 11),
+    ("PKIX1Implicit88", 11),
+    ("PKIXAttributeCertificate", 11),
+    ("PKIXAttributeCertificate-2008", 11),
+    ("PKIXAttributeCertificate-2009", 11),
+    ("PKIXCMP", 11),
+    ("PKIXCMP-2009", 11),
+    ("PKIXCRMF-2005", 11),
+    ("PKIXCRMF-2009", 11),
+    ("PKIXTSP", 11),
+    ("RFC1157-SNMP", 11),
+    ("Requests", 12),
+    ("Revocation", 13),
+    ("SNMP", 14),
+    ("SNMPv2-PDU", 11),
+    ("SNMPv3MessageSyntax", 11),
+    ("TimeStamps", 15),
+    ("USMSecurityParametersSyntax", 11),
+];
+
+/// For each text its number and those of the texts that its modules import from, directly or not.
+pub const REACHED: [&[usize]; COUNT] = [
+    &[0, 1, 4],
+    &[1],
+    &[0, 1, 2, 3, 4, 12, 13],
+    &[0, 1, 3, 4, 13],
+    &[1, 4],
+    &[5],
+    &[1, 6],
+    &[7],
+    &[1, 4, 8],
+    &[1, 9],
+    &[0, 1, 3, 4, 6, 10, 13],
+    &[0, 1, 2, 3, 4, 5, 6, 7, 8, 10, 11, 12, 13, 14, 15],
+    &[1, 12],
+    &[1, 13],
+    &[14],
+    &[0, 1, 3, 4, 13, 15],
+    &[0, 1, 3, 4, 6, 8, 13, 15, 16],
+];
 
 /// Returns the name of the file of the module with this number, and its text.
 pub fn standard(number: usize) -> Option<(&'static str, &'static str)> {
@@ -18,11 +90,12 @@ pub fn standard(number: usize) -> Option<(&'static str, &'static str)> {
         8 => Some(("ocsp.asn1", ocsp())),
         9 => Some(("openssl.asn1", openssl())),
         10 => Some(("pkcs12.asn1", pkcs12())),
-        11 => Some(("requests.asn1", requests())),
-        12 => Some(("revocation.asn1", revocation())),
-        13 => Some(("snmp.asn1", snmp())),
-        14 => Some(("timestamps.asn1", timestamps())),
-        15 => Some(("contents.asn1", contents())),
+        11 => Some(("published.asn1", published())),
+        12 => Some(("requests.asn1", requests())),
+        13 => Some(("revocation.asn1", revocation())),
+        14 => Some(("snmp.asn1", snmp())),
+        15 => Some(("timestamps.asn1", timestamps())),
+        16 => Some(("contents.asn1", contents())),
         _ => None,
     }
 }
@@ -2234,6 +2307,408 @@ END
 "
 }
 
+fn published() -> &'static str {
+    "-- The modules of standards by the names under which they are published, for modules that import from
+-- them: what is in `modules/` of each, under the name of its module here.
+
+-- RFC 5280 A.1
+PKIX1Explicit88 DEFINITIONS EXPLICIT TAGS ::= BEGIN
+
+IMPORTS
+    AlgorithmIdentifier, AttributeTypeAndValue, Certificate, CertificateSerialNumber,
+    Extension, Extensions, Name, RDNSequence, RelativeDistinguishedName, SubjectPublicKeyInfo,
+    TBSCertificate, Time, UniqueIdentifier, Validity, Version
+        FROM Certificates
+    CertificateList, TBSCertList
+        FROM Revocation
+    AdministrationDomainName, Attribute, BuiltInDomainDefinedAttribute,
+    BuiltInDomainDefinedAttributes, BuiltInStandardAttributes, CountryName, DirectoryString,
+    ExtensionAttribute, ExtensionAttributes, ORAddress, OrganizationalUnitName,
+    OrganizationalUnitNames, PersonalName, PrivateDomainName, X121Address
+        FROM CertificateExtensions;
+
+END
+
+-- RFC 5280 A.2
+PKIX1Implicit88 DEFINITIONS EXPLICIT TAGS ::= BEGIN
+
+IMPORTS
+    AccessDescription, AdministrationDomainName, AnotherName, Attribute,
+    AuthorityInfoAccessSyntax, AuthorityKeyIdentifier, BaseCRLNumber, BaseDistance,
+    BasicConstraints, BuiltInDomainDefinedAttribute, BuiltInDomainDefinedAttributes,
+    BuiltInStandardAttributes, CPSuri, CRLDistributionPoints, CRLNumber, CRLReason,
+    CertPolicyId, CertificateIssuer, CertificatePolicies, CountryName, DirectoryString,
+    DisplayText, DistributionPoint, DistributionPointName, EDIPartyName, ExtKeyUsageSyntax,
+    ExtensionAttribute, ExtensionAttributes, FreshestCRL, GeneralName, GeneralNames,
+    GeneralSubtree, GeneralSubtrees, HoldInstructionCode, InhibitAnyPolicy, InvalidityDate,
+    IssuerAltName, IssuingDistributionPoint, KeyIdentifier, KeyPurposeId, KeyUsage,
+    NameConstraints, NoticeReference, ORAddress, OrganizationalUnitName,
+    OrganizationalUnitNames, PersonalName, PolicyConstraints, PolicyInformation,
+    PolicyMappings, PolicyQualifierId, PolicyQualifierInfo, PrivateDomainName,
+    PrivateKeyUsagePeriod, ReasonFlags, SkipCerts, SubjectAltName, SubjectDirectoryAttributes,
+    SubjectInfoAccessSyntax, SubjectKeyIdentifier, UserNotice, X121Address
+        FROM CertificateExtensions;
+
+END
+
+-- RFC 5912 14
+PKIX1Explicit-2009 DEFINITIONS EXPLICIT TAGS ::= BEGIN
+
+IMPORTS
+    Certificate, CertificateSerialNumber, Name, RDNSequence, RelativeDistinguishedName,
+    SubjectPublicKeyInfo, TBSCertificate, Time, UniqueIdentifier, Validity, Version
+        FROM Certificates
+    CertificateList, TBSCertList
+        FROM Revocation;
+
+END
+
+-- RFC 5912 14
+PKIX1Implicit-2009 DEFINITIONS EXPLICIT TAGS ::= BEGIN
+
+IMPORTS
+    AccessDescription, AuthorityInfoAccessSyntax, AuthorityKeyIdentifier, BaseDistance,
+    BasicConstraints, CPSuri, CRLDistributionPoints, CRLNumber, CRLReason, CertPolicyId,
+    CertificatePolicies, DisplayText, DistributionPoint, DistributionPointName, EDIPartyName,
+    ExtKeyUsageSyntax, GeneralName, GeneralNames, GeneralSubtree, GeneralSubtrees,
+    IssuingDistributionPoint, KeyIdentifier, KeyPurposeId, KeyUsage, NameConstraints,
+    NoticeReference, PolicyConstraints, PolicyInformation, PolicyMappings, PolicyQualifierInfo,
+    PrivateKeyUsagePeriod, ReasonFlags, SkipCerts, SubjectDirectoryAttributes,
+    SubjectInfoAccessSyntax, UserNotice
+        FROM CertificateExtensions;
+
+END
+
+-- RFC 3281 B
+PKIXAttributeCertificate DEFINITIONS EXPLICIT TAGS ::= BEGIN
+
+IMPORTS
+    AttCertIssuer, AttCertValidityPeriod, AttCertVersion, AttributeCertificate,
+    AttributeCertificateInfo, Holder, IetfAttrSyntax, IssuerSerial, ObjectDigestInfo,
+    RoleSyntax, SvceAuthInfo, Target, TargetCert, Targets, V2Form
+        FROM AttributeCertificates;
+
+END
+
+-- RFC 5755 B
+PKIXAttributeCertificate-2008 DEFINITIONS EXPLICIT TAGS ::= BEGIN
+
+IMPORTS
+    AttCertIssuer, AttCertValidityPeriod, AttCertVersion, AttributeCertificate,
+    AttributeCertificateInfo, AttributeCertificateInfoV1, AttributeCertificateV1, Holder,
+    IetfAttrSyntax, IetfAttrValue, IssuerSerial, ObjectDigestInfo, RoleSyntax, SvceAuthInfo,
+    Target, TargetCert, Targets, V2Form
+        FROM AttributeCertificates;
+
+END
+
+-- RFC 5912 8
+PKIXAttributeCertificate-2009 DEFINITIONS EXPLICIT TAGS ::= BEGIN
+
+IMPORTS
+    AttCertIssuer, AttCertValidityPeriod, AttCertVersion, AttributeCertificate,
+    AttributeCertificateInfo, Holder, IetfAttrSyntax, IssuerSerial, ObjectDigestInfo,
+    RoleSyntax, SvceAuthInfo, Target, TargetCert, Targets, V2Form
+        FROM AttributeCertificates;
+
+END
+
+-- RFC 3852 12.1, RFC 5652 12.1
+CryptographicMessageSyntax2004 DEFINITIONS EXPLICIT TAGS ::= BEGIN
+
+IMPORTS
+    Attribute, AuthAttributes, AuthEnvelopedData, AuthenticatedData, CMSVersion,
+    CertificateChoices, CertificateSet, ContentEncryptionAlgorithmIdentifier, ContentInfo,
+    ContentType, Countersignature, DigestAlgorithmIdentifier, DigestAlgorithmIdentifiers,
+    DigestedData, EncapsulatedContentInfo, EncryptedContent, EncryptedContentInfo,
+    EncryptedData, EncryptedKey, EnvelopedData, ExtendedCertificate, ExtendedCertificateInfo,
+    IssuerAndSerialNumber, KEKIdentifier, KEKRecipientInfo, KeyAgreeRecipientIdentifier,
+    KeyAgreeRecipientInfo, KeyDerivationAlgorithmIdentifier, KeyEncryptionAlgorithmIdentifier,
+    KeyTransRecipientInfo, MessageAuthenticationCode, MessageAuthenticationCodeAlgorithm,
+    MessageDigest, OriginatorIdentifierOrKey, OriginatorInfo, OriginatorPublicKey,
+    OtherCertificateFormat, OtherKeyAttribute, OtherRecipientInfo, OtherRevocationInfoFormat,
+    PasswordRecipientInfo, RecipientEncryptedKey, RecipientEncryptedKeys, RecipientIdentifier,
+    RecipientInfo, RecipientInfos, RecipientKeyIdentifier, RevocationInfoChoice,
+    RevocationInfoChoices, SignatureAlgorithmIdentifier, SignatureValue, SignedAttributes,
+    SignedData, SignerIdentifier, SignerInfo, SignerInfos, SigningTime, UnauthAttributes,
+    UnprotectedAttributes, UnsignedAttributes, UserKeyingMaterial
+        FROM CMS;
+
+END
+
+-- RFC 5911
+CryptographicMessageSyntax-2009 DEFINITIONS EXPLICIT TAGS ::= BEGIN
+
+IMPORTS
+    AuthAttributes, AuthenticatedData, CMSVersion, CertificateChoices, CertificateSet,
+    ContentEncryptionAlgorithmIdentifier, ContentInfo, ContentType, Countersignature,
+    DigestAlgorithmIdentifier, DigestedData, EncapsulatedContentInfo, EncryptedContentInfo,
+    EncryptedData, EncryptedKey, EnvelopedData, ExtendedCertificate, ExtendedCertificateInfo,
+    IssuerAndSerialNumber, KEKIdentifier, KEKRecipientInfo, KeyAgreeRecipientIdentifier,
+    KeyAgreeRecipientInfo, KeyDerivationAlgorithmIdentifier, KeyEncryptionAlgorithmIdentifier,
+    KeyTransRecipientInfo, MessageAuthenticationCode, MessageAuthenticationCodeAlgorithm,
+    MessageDigest, OriginatorIdentifierOrKey, OriginatorInfo, OriginatorPublicKey,
+    OtherCertificateFormat, OtherKeyAttribute, OtherRecipientInfo, OtherRevocationInfoFormat,
+    PasswordRecipientInfo, RecipientEncryptedKey, RecipientEncryptedKeys, RecipientIdentifier,
+    RecipientInfo, RecipientInfos, RecipientKeyIdentifier, RevocationInfoChoice,
+    RevocationInfoChoices, SignatureAlgorithmIdentifier, SignatureValue, SignedAttributes,
+    SignedData, SignerIdentifier, SignerInfo, SignerInfos, SigningTime, UnauthAttributes,
+    UserKeyingMaterial
+        FROM CMS;
+
+END
+
+-- RFC 6268
+CryptographicMessageSyntax-2010 DEFINITIONS EXPLICIT TAGS ::= BEGIN
+
+IMPORTS
+    Attribute, AuthAttributes, AuthEnvelopedData, AuthenticatedData, CMSVersion,
+    CertificateChoices, CertificateSet, ContentEncryptionAlgorithmIdentifier, ContentInfo,
+    ContentType, Countersignature, DigestAlgorithmIdentifier, DigestAlgorithmIdentifiers,
+    DigestedData, EncapsulatedContentInfo, EncryptedContent, EncryptedContentInfo,
+    EncryptedData, EncryptedKey, EnvelopedData, ExtendedCertificate, ExtendedCertificateInfo,
+    IssuerAndSerialNumber, KEKIdentifier, KEKRecipientInfo, KeyAgreeRecipientIdentifier,
+    KeyAgreeRecipientInfo, KeyDerivationAlgorithmIdentifier, KeyEncryptionAlgorithmIdentifier,
+    KeyTransRecipientInfo, MessageAuthenticationCode, MessageAuthenticationCodeAlgorithm,
+    MessageDigest, OriginatorIdentifierOrKey, OriginatorInfo, OriginatorPublicKey,
+    OtherCertificateFormat, OtherKeyAttribute, OtherRecipientInfo, OtherRevocationInfoFormat,
+    PasswordRecipientInfo, RecipientEncryptedKey, RecipientEncryptedKeys, RecipientIdentifier,
+    RecipientInfo, RecipientInfos, RecipientKeyIdentifier, RevocationInfoChoice,
+    RevocationInfoChoices, SignatureAlgorithmIdentifier, SignatureValue, SignedAttributes,
+    SignedData, SignerIdentifier, SignerInfo, SignerInfos, SigningTime, UnauthAttributes,
+    UnprotectedAttributes, UnsignedAttributes, UserKeyingMaterial
+        FROM CMS;
+
+END
+
+-- RFC 5912 4
+OCSP-2009 DEFINITIONS EXPLICIT TAGS ::= BEGIN
+
+IMPORTS
+    AcceptableResponses, ArchiveCutoff, BasicOCSPResponse, CertID, CertStatus, CrlID, KeyHash,
+    OCSPRequest, OCSPResponse, OCSPResponseStatus, Request, ResponderID, ResponseBytes,
+    ResponseData, RevokedInfo, ServiceLocator, Signature, SingleResponse, TBSRequest,
+    UnknownInfo, Version
+        FROM OCSP;
+
+END
+
+-- RFC 6960 B.1
+OCSP-2013-88 DEFINITIONS EXPLICIT TAGS ::= BEGIN
+
+IMPORTS
+    AcceptableResponses, ArchiveCutoff, BasicOCSPResponse, CertID, CertStatus, CrlID, KeyHash,
+    OCSPRequest, OCSPResponse, OCSPResponseStatus, PreferredSignatureAlgorithm,
+    PreferredSignatureAlgorithms, Request, ResponderID, ResponseBytes, ResponseData,
+    RevokedInfo, ServiceLocator, Signature, SingleResponse, TBSRequest, UnknownInfo, Version
+        FROM OCSP;
+
+END
+
+-- RFC 6960 B.2
+OCSP-2013-08 DEFINITIONS EXPLICIT TAGS ::= BEGIN
+
+IMPORTS
+    AcceptableResponses, ArchiveCutoff, BasicOCSPResponse, CertID, CertStatus, CrlID, KeyHash,
+    OCSPRequest, OCSPResponse, OCSPResponseStatus, PreferredSignatureAlgorithm,
+    PreferredSignatureAlgorithms, Request, ResponderID, ResponseBytes, ResponseData,
+    RevokedInfo, ServiceLocator, Signature, SingleResponse, TBSRequest, UnknownInfo, Version
+        FROM OCSP;
+
+END
+
+-- RFC 3161 A
+PKIXTSP DEFINITIONS EXPLICIT TAGS ::= BEGIN
+
+IMPORTS
+    Accuracy, MessageImprint, PKIFailureInfo, PKIFreeText, PKIStatus, PKIStatusInfo,
+    TSAPolicyId, TSTInfo, TimeStampReq, TimeStampResp, TimeStampToken
+        FROM TimeStamps;
+
+END
+
+-- RFC 4210 F
+PKIXCMP DEFINITIONS EXPLICIT TAGS ::= BEGIN
+
+IMPORTS
+    CAKeyUpdAnnContent, CMPCertificate, CRLAnnContent, CertConfirmContent, CertOrEncCert,
+    CertRepMessage, CertResponse, CertStatus, CertifiedKeyPair, Challenge, ErrorMsgContent,
+    GenMsgContent, GenRepContent, InfoTypeAndValue, KeyRecRepContent, PBMParameter, PKIBody,
+    PKIConfirmContent, PKIFailureInfo, PKIFreeText, PKIHeader, PKIMessage, PKIMessages,
+    PKIProtection, PKIStatus, PKIStatusInfo, POPODecKeyChallContent, POPODecKeyRespContent,
+    PollRepContent, PollReqContent, ProtectedPart, RevAnnContent, RevDetails, RevRepContent,
+    RevReqContent
+        FROM CMP;
+
+END
+
+-- RFC 5912 10
+PKIXCMP-2009 DEFINITIONS EXPLICIT TAGS ::= BEGIN
+
+IMPORTS
+    CAKeyUpdAnnContent, CMPCertificate, CRLAnnContent, CertConfirmContent, CertOrEncCert,
+    CertRepMessage, CertResponse, CertStatus, CertifiedKeyPair, Challenge, ErrorMsgContent,
+    GenMsgContent, GenRepContent, InfoTypeAndValue, KeyRecRepContent, PBMParameter, PKIBody,
+    PKIConfirmContent, PKIFailureInfo, PKIFreeText, PKIHeader, PKIMessage, PKIMessages,
+    PKIProtection, PKIStatus, PKIStatusInfo, POPODecKeyChallContent, POPODecKeyRespContent,
+    PollRepContent, PollReqContent, ProtectedPart, RevAnnContent, RevDetails, RevRepContent,
+    RevReqContent
+        FROM CMP;
+
+END
+
+-- RFC 4211 B
+PKIXCRMF-2005 DEFINITIONS EXPLICIT TAGS ::= BEGIN
+
+IMPORTS
+    AttributeTypeAndValue, CertId, CertReqMessages, CertReqMsg, CertRequest, CertTemplate,
+    Controls, EncryptedKey, EncryptedValue, OptionalValidity, PKIPublicationInfo, PKMACValue,
+    POPOPrivKey, POPOSigningKey, POPOSigningKeyInput, ProofOfPossession, SinglePubInfo,
+    SubsequentMessage
+        FROM CRMF;
+
+END
+
+-- RFC 5912 11
+PKIXCRMF-2009 DEFINITIONS EXPLICIT TAGS ::= BEGIN
+
+IMPORTS
+    CertId, CertReqMessages, CertReqMsg, CertRequest, CertTemplate, Controls, EncryptedKey,
+    EncryptedValue, OptionalValidity, PKIPublicationInfo, PKMACValue, POPOPrivKey,
+    POPOSigningKey, POPOSigningKeyInput, ProofOfPossession, SinglePubInfo, SubsequentMessage
+        FROM CRMF;
+
+END
+
+-- RFC 8017 C
+PKCS-1 DEFINITIONS EXPLICIT TAGS ::= BEGIN
+
+IMPORTS
+    DigestInfo, OtherPrimeInfo, OtherPrimeInfos, RSAPrivateKey, RSAPublicKey
+        FROM Keys;
+
+END
+
+-- RFC 5208 A
+PKCS-8 DEFINITIONS EXPLICIT TAGS ::= BEGIN
+
+IMPORTS
+    EncryptedPrivateKeyInfo, PrivateKeyInfo
+        FROM Keys;
+
+END
+
+-- RFC 5958 A
+AsymmetricKeyPackageModuleV1 DEFINITIONS EXPLICIT TAGS ::= BEGIN
+
+IMPORTS
+    Attributes, EncryptedPrivateKeyInfo, OneAsymmetricKey, PrivateKeyInfo
+        FROM Keys;
+
+END
+
+-- RFC 3279 3
+PKIX1Algorithms88 DEFINITIONS EXPLICIT TAGS ::= BEGIN
+
+IMPORTS
+    Curve, DomainParameters, Dss-Parms, Dss-Sig-Value, ECDSA-Sig-Value, ECParameters, FieldID,
+    RSAPublicKey, ValidationParms
+        FROM Keys;
+
+END
+
+-- RFC 2986 A
+PKCS-10 DEFINITIONS EXPLICIT TAGS ::= BEGIN
+
+IMPORTS
+    CertificationRequest, CertificationRequestInfo
+        FROM Requests;
+
+END
+
+-- RFC 7292 D
+PKCS-12 DEFINITIONS EXPLICIT TAGS ::= BEGIN
+
+IMPORTS
+    AuthenticatedSafe, CRLBag, CertBag, KeyBag, MacData, PFX, PKCS12Attribute,
+    PKCS8ShroudedKeyBag, SafeBag, SafeContents, SecretBag
+        FROM PKCS12;
+
+END
+
+-- RFC 4120 A
+KerberosV5Spec2 DEFINITIONS EXPLICIT TAGS ::= BEGIN
+
+IMPORTS
+    AD-AND-OR, AD-IF-RELEVANT, AD-KDCIssued, AD-MANDATORY-FOR-KDC, AP-REP, AP-REQ, APOptions,
+    AS-REP, AS-REQ, Authenticator, AuthorizationData, Checksum, ETYPE-INFO, ETYPE-INFO-ENTRY,
+    ETYPE-INFO2, ETYPE-INFO2-ENTRY, EncAPRepPart, EncASRepPart, EncKDCRepPart, EncKrbCredPart,
+    EncKrbPrivPart, EncTGSRepPart, EncTicketPart, EncryptedData, EncryptionKey, HostAddress,
+    HostAddresses, Int32, KDC-REP, KDC-REQ, KDC-REQ-BODY, KDCOptions, KRB-CRED, KRB-ERROR,
+    KRB-PRIV, KRB-SAFE, KRB-SAFE-BODY, KerberosFlags, KerberosString, KerberosTime,
+    KrbCredInfo, LastReq, METHOD-DATA, Microseconds, PA-DATA, PA-ENC-TIMESTAMP, PA-ENC-TS-ENC,
+    PrincipalName, Realm, TGS-REP, TGS-REQ, TYPED-DATA, Ticket, TicketFlags, TransitedEncoding,
+    UInt32
+        FROM Kerberos;
+
+END
+
+-- RFC 4511 B
+Lightweight-Directory-Access-Protocol-V3 DEFINITIONS EXPLICIT TAGS ::= BEGIN
+
+IMPORTS
+    AbandonRequest, AddRequest, AddResponse, AssertionValue, Attribute, AttributeDescription,
+    AttributeList, AttributeSelection, AttributeValue, AttributeValueAssertion,
+    AttributeValues, AuthenticationChoice, BindRequest, BindResponse, Change, CompareRequest,
+    CompareResponse, Control, Controls, DelRequest, DelResponse, ExtendedRequest,
+    ExtendedResponse, Filter, IntermediateResponse, LDAPDN, LDAPMessage, LDAPOID, LDAPResult,
+    LDAPString, MatchingRuleAssertion, MatchingRuleId, MaxInt, MessageID, ModifyDNRequest,
+    ModifyDNResponse, ModifyRequest, ModifyResponse, PartialAttribute, PartialAttributeList,
+    ProtocolOp, Referral, RelativeLDAPDN, ResultCode, SaslCredentials, SearchRequest,
+    SearchResultDone, SearchResultEntry, SearchResultReference, Substring, SubstringFilter,
+    URI, UnbindRequest
+        FROM LDAP;
+
+END
+
+-- RFC 1157 4
+RFC1157-SNMP DEFINITIONS EXPLICIT TAGS ::= BEGIN
+
+IMPORTS
+    Message, PDU, PDUs, VarBind, VarBindList
+        FROM SNMP;
+
+END
+
+-- RFC 3416 3
+SNMPv2-PDU DEFINITIONS EXPLICIT TAGS ::= BEGIN
+
+IMPORTS
+    BulkPDU, ObjectName, PDU, PDUs, VarBind, VarBindList
+        FROM SNMP;
+
+END
+
+-- RFC 3412 6
+SNMPv3MessageSyntax DEFINITIONS EXPLICIT TAGS ::= BEGIN
+
+IMPORTS
+    HeaderData, SNMPv3Message, ScopedPDU, ScopedPduData
+        FROM SNMP;
+
+END
+
+-- RFC 3414 2.4
+USMSecurityParametersSyntax DEFINITIONS EXPLICIT TAGS ::= BEGIN
+
+IMPORTS
+    UsmSecurityParameters
+        FROM SNMP;
+
+END
+"
+}
+
 fn requests() -> &'static str {
     "-- Certification requests (PKCS #10, RFC 2986 4), laid out from the sections of the standard.
 
@@ -2547,8 +3022,8 @@ END
 
 fn contents() -> &'static str {
     "-- Types of what is in open types (`Open`), in OCTET STRINGs (`Octets`) and in BIT STRINGs (`Bits`) beside an
--- identifier: each alternative has the name that identifiers.rt gives to it. `Universal` has the types of values
--- with universal tags.
+-- identifier: each alternative has the name that modules/identifiers.asn1 has for it. `Universal` has the types
+-- of values with universal tags.
 
 Contents DEFINITIONS EXPLICIT TAGS ::= BEGIN
 

@@ -1,10 +1,10 @@
 //! The types of messages.
-ghost use Rattle.std.specs.Prelude.{◌≡◌, Some, IfOk};
+ghost use Rattle.std.specs.Prelude.{◌≡◌, Some};
 ghost use Rattle.rasn_types.specs.declared.types.codec.Codec.{Codec};
 
-use crate::messages::rules_of;
+use crate::messages::rule_of;
 use rasn_compiler::Root;
-use rasn_schema::{Schema, Type, TypeId, part_name, part_type, type_at};
+use rasn_schema::{Schema, Type, TypeId};
 use rasn_types::types::Codec;
 use std::alloc::{AllocError, Global};
 
@@ -12,54 +12,62 @@ use std::alloc::{AllocError, Global};
 #[derive(Clone, Copy)]
 pub struct MessageType<'a> {
     pub name: &'a str,
+    /// The name of its module.
+    pub module: &'a str,
     pub rule: Codec,
     pub schema: &'a Schema,
     pub root: TypeId,
     /// Whether an open type or unknown values are among what it is made of.
     pub holds_open: bool,
-    /// The labels of PEM that name it.
-    pub labels: &'static [&'static str],
-    /// Whether a message is tried as one of this type if nothing names its type.
-    pub is_tried: bool,
+}
+
+/// A type of a schema that a message may be of.
+#[derive(Clone, Copy)]
+pub(crate) struct KnownType<'text> {
+    name: &'text str,
+    /// The name of its module.
+    module: &'text str,
+    root: TypeId,
+    holds_open: bool,
+}
+
+impl<'text> KnownType<'text> {
+    /// Returns a type of this schema.
+    pub(crate) fn new(
+        alloc: Global,
+        schema: &Schema,
+        root: &Root<'text>,
+    ) -> Result<KnownType<'text>, AllocError> {
+        Ok(KnownType {
+            name: root.name,
+            module: root.module,
+            root: root.type_id,
+            holds_open: holds_open(alloc, schema, root.type_id)?,
+        })
+    }
 }
 
 impl<'a> MessageType<'a> {
-    /// Returns a type of a schema, which is read by these rules or else by those of its module. It
-    /// has no label, and is tried.
+    /// Returns a type of a schema, which is read by these rules or else by those of its module.
     pub(crate) fn new(
-        alloc: Global,
         schema: &'a Schema,
-        root: &Root<'a>,
-        rules: Option<Codec>,
-    ) -> Result<MessageType<'a>, AllocError>
-        ensures rules { (rule : Codec) → rules ≡ Some rule → IfOk result (λ m. m.rule ≡ rule) }
-        ensures root { IfOk result (λ m. (m.root ≡ root.now.type_id) × (m.schema.now ≡ schema.now)) }
+        of: &KnownType<'a>,
+        rule: Option<Codec>,
+    ) -> MessageType<'a>
+        ensures rule { (given : Codec) → rule ≡ Some given → result.rule ≡ given }
+        ensures of { (result.root ≡ of.now.root) × (result.holds_open ≡ of.now.holds_open) × (result.schema.now ≡ schema.now) }
     {
-        let rule = match rules {
+        let rule = match rule {
             Some(rule) => rule,
-            None => rules_of(root.module),
+            None => rule_of(of.module),
         };
-        Ok(MessageType {
-            name: root.name,
+        MessageType {
+            name: of.name,
+            module: of.module,
             rule,
             schema,
-            root: root.type_id,
-            holds_open: holds_open(alloc, schema, root.type_id)?,
-            labels: &[],
-            is_tried: true,
-        })
-    }
-
-    /// Returns it with labels. It may be tried without one.
-    pub(crate) fn labelled(
-        self,
-        labels: &'static [&'static str],
-        is_tried: bool,
-    ) -> MessageType<'a> {
-        MessageType {
-            labels,
-            is_tried,
-            ..self
+            root: of.root,
+            holds_open: of.holds_open,
         }
     }
 
@@ -73,54 +81,11 @@ impl<'a> MessageType<'a> {
 
 /// Returns whether an open type or unknown values are among what a type is made of.
 fn holds_open(alloc: Global, schema: &Schema, root: TypeId) -> Result<bool, AllocError> {
-    let types = schema.types();
-    let mut is_known = vec![in alloc; false; types.len()]?;
-    let mut list = Vec::new(alloc);
-    add_type(&mut is_known, &mut list, root)?;
-    // Each type is in the list once.
-    for next in 0..types.len() {
-        let Some(id) = list.get(next).copied() else {
-            break;
-        };
-        match type_at(types, id) {
-            Some(Type::Any { .. } | Type::Unknown) => return Ok(true),
-            Some(ty) => add_parts(&mut is_known, &mut list, ty)?,
-            None => {}
+    let is_reached = schema.reached_from(alloc, &[root])?;
+    for (ty, is_reached) in schema.types().iter().zip(is_reached.as_slice()) {
+        if *is_reached && matches!(ty, Type::Any { .. } | Type::Unknown) {
+            return Ok(true);
         }
     }
     Ok(false)
-}
-
-/// Adds the types of the parts of a type, unless they are known.
-fn add_parts(
-    is_known: &mut Vec<bool>,
-    list: &mut Vec<TypeId>,
-    ty: &Type,
-) -> Result<(), AllocError> {
-    for index in 0..usize::MAX {
-        let Some(id) = part_type(ty, index) else {
-            break;
-        };
-        add_type(is_known, list, id)?;
-        // What a list or an explicit tag holds has no name, and is the same for each index.
-        if part_name(ty, index).is_none() {
-            break;
-        }
-    }
-    Ok(())
-}
-
-/// Adds a type, unless it is known.
-fn add_type(
-    is_known: &mut Vec<bool>,
-    list: &mut Vec<TypeId>,
-    id: TypeId,
-) -> Result<(), AllocError> {
-    if let Some(is_known) = is_known.get_mut(id.0) {
-        if !*is_known {
-            *is_known = true;
-            list.push(id)?;
-        }
-    }
-    Ok(())
 }

@@ -7,18 +7,27 @@ ghost use Rattle.rasn_print.specs.Verdicts.{IsVerdict, IsDerVerdict, IsRefusal, 
 
 use crate::command_line::{Call, Work};
 use crate::dump::{End, Entries, deeper_at, entry_of};
+use crate::exact::exact_numbers;
 use crate::example::example_of;
-use crate::known::Known;
+use crate::fingerprint::fingerprint_line;
+use crate::known::{Candidates, Known};
 use crate::offsets::offsets_text;
+use crate::page::page_data;
+use crate::printer::large::LARGE;
+use crate::printer::line_text;
+use crate::printer::object::object_text;
+use crate::query::{part_at, row_text};
 use crate::reading::{check, read_alone, remainder, show};
 use crate::reason::{ADVICE, Reason, path_of};
 use crate::refusal_text::{extra_from, text_of};
-use crate::types::MessageType;
+use crate::similar::meant_by;
+use crate::types::{KnownType, MessageType};
+use crate::values::error_after;
 use base64::engine::general_purpose::STANDARD;
 use rasn_dynamic::{Refusal, WriteError, decode};
-use rasn_json::{encode, to_json};
+use rasn_json::{EncodeJsonError, JsonError, Layout, encode, to_json};
 use rasn_lint::{Departure, LintError, OpenTypes, check as check_der, lint};
-use rasn_schema::{Type, Value, part_type, type_at};
+use rasn_schema::{Type, TypeId, Value, View, part_type, type_at};
 use rasn_text::{Escaping, is_hidden, visible};
 use rasn_types::error::DecodeErrorKind;
 use rasn_types::types::{Codec, Hexadecimal, Tag};
@@ -34,10 +43,9 @@ const LINTED: usize = 256;
 pub struct Context<'a> {
     pub alloc: Global,
     pub call: &'a Call,
-    pub known: &'a Known,
-    /// The types that messages may be of: the one that the call names, or all that are known, the
-    /// first of which that reads a message is its type.
-    pub types: &'a [MessageType<'a>],
+    /// The types that messages may be of: the one that the call or a label names, or all that are
+    /// tried, the first of which that reads a message is its type.
+    pub known: &'a Known<'a>,
     /// Whether names are in bold.
     pub is_colored: bool,
 }
@@ -50,6 +58,28 @@ pub struct Input<'a> {
     pub label: Option<&'a str>,
     /// Whether it was in hexadecimal or base64.
     pub is_text: bool,
+    /// The text that is before it, if it is JSON.
+    pub before: &'a str,
+}
+
+impl<'a> Input<'a> {
+    /// Returns octets that are in no block of PEM and were no text.
+    pub(crate) fn of(octets: &'a [u8]) -> Input<'a> {
+        Input {
+            octets,
+            label: None,
+            is_text: false,
+            before: "",
+        }
+    }
+
+    /// Returns the octets of a block of PEM with this label.
+    pub(crate) fn labelled(octets: &'a [u8], label: &'a str) -> Input<'a> {
+        Input {
+            label: Some(label),
+            ..Input::of(octets)
+        }
+    }
 }
 
 /// What is printed for a message.
@@ -57,38 +87,75 @@ pub struct Input<'a> {
 pub enum Answer {
     /// These octets.
     Done(Vec<u8>),
+    /// The lines of a large message of this type, which are made as they are written.
+    Large(Shown),
     /// A line for each departure from DER, of which there is one at least.
     Departures(Vec<Reason>),
     /// Why it is refused.
     Refused(Reason),
 }
 
+/// The type of a message that is shown part by part.
+#[derive(Drop)]
+pub struct Shown {
+    pub(crate) candidates: Candidates,
+    pub(crate) root: TypeId,
+    pub(crate) rule: Codec,
+    /// The name of the type.
+    pub(crate) name: String,
+    /// The lines after those of the value.
+    pub(crate) end: String,
+}
+
 /// What is printed, unless memory runs out.
 type Answered = Result<Answer, AllocError>;
 
-/// Returns what is printed for a message: of the type that is asked for, or that its label names,
-/// or of the first of the known types that reads it.
+/// Returns what is printed for a message: of the type that decides it, or of the first of the known
+/// types that reads it.
 ///
 /// # Errors
 /// `AllocError` if memory runs out.
 pub fn answer_to(context: &Context<'_>, input: &Input<'_>) -> Result<Answer, AllocError> {
-    if let (true, Some(wanted)) = (context.call.type_name.is_some(), context.types.first()) {
-        return answer_by(context, wanted, input);
+    let known = context.known;
+    if let (Candidates::Named | Candidates::Labelled(_), Some(of)) = (
+        known.candidates,
+        known.types.first(),
+    ) {
+        return answer_by(context, &type_of(context, of), input);
     }
-    match labelled(context.types, input.label.unwrap_or("")) {
-        Some(wanted) => answer_by(context, wanted, input),
+    answer_by_trial(context, input)
+}
+
+/// Returns whether the first of the known types reads a message.
+///
+/// # Errors
+/// `AllocError` if memory runs out.
+pub(crate) fn is_of_first(context: &Context<'_>, input: &Input<'_>) -> Result<bool, AllocError> {
+    let Some(of) = context.known.types.first() else {
+        return Ok(false);
+    };
+    let wanted = as_tried(context, &type_of(context, of));
+    match check(context.alloc, &wanted, input.octets) {
+        Ok(()) => Ok(true),
+        Err(found) if found.error.is_out_of_memory() => Err(AllocError),
+        Err(_) => Ok(false),
+    }
+}
+
+/// Returns what is printed for a message that the first of the known types reads.
+///
+/// # Errors
+/// `AllocError` if memory runs out.
+pub(crate) fn answer_of_first(context: &Context<'_>, input: &Input<'_>) -> Answered {
+    match context.known.types.first() {
+        Some(of) => answer_as(context, &type_of(context, of), input),
         None => answer_by_trial(context, input),
     }
 }
 
-/// Returns the first type that has this label.
-fn labelled<'a>(types: &'a [MessageType<'a>], label: &str) -> Option<&'a MessageType<'a>> {
-    for of in types {
-        if of.labels.contains(&label) {
-            return Some(of);
-        }
-    }
-    None
+/// Returns a known type, with the rules of the call or its own.
+fn type_of<'a>(context: &Context<'a>, of: &KnownType<'a>) -> MessageType<'a> {
+    MessageType::new(&context.known.schema, of, context.call.rule)
 }
 
 /// Returns what is printed for a message of the first type that reads it, or else why it is refused
@@ -106,12 +173,10 @@ fn answer_by_trial(context: &Context<'_>, input: &Input<'_>) -> Answered {
         Err(_) => input.octets.len(),
     };
     let mut closest = None;
-    for wanted in context.types {
-        if !wanted.is_tried {
-            continue;
-        }
-        match check(alloc, &as_tried(context, wanted), input.octets) {
-            Ok(()) => return answer_as(context, wanted, input),
+    for of in &context.known.types {
+        let wanted = type_of(context, of);
+        match check(alloc, &as_tried(context, &wanted), input.octets) {
+            Ok(()) => return answer_as(context, &wanted, input),
             Err(refusal) if refusal.error.is_out_of_memory() => return Err(AllocError),
             Err(refusal) => {
                 if refusal.offset > most {
@@ -122,7 +187,7 @@ fn answer_by_trial(context: &Context<'_>, input: &Input<'_>) -> Answered {
         }
     }
     match closest {
-        Some(wanted) => answer_as(context, wanted, input),
+        Some(wanted) => answer_as(context, &wanted, input),
         None => {
             let text = format!(in alloc; "none of the known messages; {ADVICE}")?;
             refused_for(alloc, &text)
@@ -170,6 +235,7 @@ fn answer_by(context: &Context<'_>, wanted: &MessageType<'_>, input: &Input<'_>)
         Work::Example => message.example(),
         Work::Check if wanted.rule == Codec::Der => message.checked(),
         Work::Check => message.read(),
+        Work::Get | Work::Table => message.queried(),
         Work::Show | Work::Types | Work::Dump => message.shown(),
     }
 }
@@ -410,19 +476,147 @@ impl Message<'_, '_> {
     /// Returns it as text or the parts of it, in colour if that is asked for.
     fn shown(&self) -> Answered {
         let (alloc, call) = (self.context.alloc, self.context.call);
+        if call.has_json {
+            return self.shown_as_json();
+        }
+        if call.has_html {
+            return self.shown_on_page();
+        }
+        if self.octets.len() >= LARGE && !call.has_offsets {
+            return self.shown_in_parts();
+        }
         let shown = if call.has_offsets {
-            offsets_text(alloc, self.wanted, self.octets)
+            offsets_text(alloc, self.context.known, self.wanted, self.octets)
         } else {
             show(alloc, self.context.known, self.wanted, self.octets)
         };
-        let text = match shown {
-            Ok(text) => printed(alloc, Escaping::Lines, text)?,
-            Err(refusal) => return self.refused(refusal),
-        };
-        if self.context.is_colored {
-            return Ok(Answer::Done(colored(alloc, text.as_str())?.into_bytes()));
+        match shown {
+            Ok(text) => {
+                let mut text = text;
+                if !call.has_offsets {
+                    let line = fingerprint_line(alloc, self.wanted, self.octets)?;
+                    text.push_str(line.as_str())?;
+                }
+                let text = lines_shown(alloc, self.context.is_colored, text)?;
+                Ok(Answer::Done(text.into_bytes()))
+            }
+            Err(refusal) => self.refused(refusal),
         }
-        Ok(Answer::Done(text.into_bytes()))
+    }
+
+    /// Returns what is shown of it as JSON: in one line if a line holds a message.
+    fn shown_as_json(&self) -> Answered {
+        let (context, wanted) = (self.context, self.wanted);
+        match read_alone(context.alloc, wanted, self.octets) {
+            Ok(value) => {
+                let layout = context.call.layout();
+                let text = object_text(context.alloc, context.known, wanted, &value, layout)?;
+                json_line(context.alloc, text)
+            }
+            Err(refusal) => self.refused(refusal),
+        }
+    }
+
+    /// Returns its data for a page, with what departs from DER.
+    fn shown_on_page(&self) -> Answered {
+        let (context, wanted) = (self.context, self.wanted);
+        let reasons = self.faults()?;
+        let reasons = reasons.as_slice();
+        match page_data(context.alloc, context.known, wanted, self.octets, reasons)? {
+            Ok(data) => Ok(Answer::Done(data)),
+            Err(refusal) => self.refused(refusal),
+        }
+    }
+
+    /// Returns what departs from DER, or why it is refused.
+    fn faults(&self) -> Result<Vec<Reason>, AllocError> {
+        match self.linted()? {
+            Answer::Departures(reasons) => Ok(reasons),
+            Answer::Refused(reason) => {
+                let mut reasons = Vec::new(self.context.alloc);
+                reasons.push(reason)?;
+                Ok(reasons)
+            }
+            Answer::Done(_) | Answer::Large(_) => Ok(Vec::new(self.context.alloc)),
+        }
+    }
+
+    /// Returns that its lines are made as they are written.
+    fn shown_in_parts(&self) -> Answered {
+        let (context, wanted) = (self.context, self.wanted);
+        match check(context.alloc, wanted, self.octets) {
+            Ok(()) => Ok(Answer::Large(Shown {
+                candidates: context.known.candidates,
+                root: wanted.root,
+                rule: wanted.rule,
+                name: String::from_str(context.alloc, wanted.name)?,
+                end: fingerprint_line(context.alloc, wanted, self.octets)?,
+            })),
+            Err(refusal) => self.refused(refusal),
+        }
+    }
+
+    /// Returns the values of the parts that are asked for: in a table a row of them.
+    fn queried(&self) -> Answered {
+        match read_alone(self.context.alloc, self.wanted, self.octets) {
+            Ok(value) => self.values_of(&value),
+            Err(refusal) => self.refused(refusal),
+        }
+    }
+
+    /// Returns the values of parts of a value of its type: a line for each, or a row of a table, which
+    /// has nothing for a part that is absent.
+    fn values_of(&self, value: &Value<'_>) -> Answered {
+        let (alloc, call) = (self.context.alloc, self.context.call);
+        let is_table = call.work == Work::Table;
+        let view = self.wanted.schema.view(self.wanted.root, value);
+        let mut cells = Vec::new(alloc);
+        for path in &call.paths {
+            let cell = match part_at(alloc, &view, path.as_str())? {
+                Some(part) => self.cell_of(path.as_str(), &part)?,
+                None if is_table => Ok(String::new(alloc)),
+                None => {
+                    let text = format!(in alloc; "the message has no part {path}")?;
+                    return refused_for(alloc, &text);
+                }
+            };
+            match cell {
+                Ok(cell) => cells.push(cell)?,
+                Err(error) => return refused_for(alloc, &error),
+            }
+        }
+        if is_table {
+            return Ok(Answer::Done(row_text(alloc, call, cells.as_slice())?.into_bytes()));
+        }
+        let mut lines = cells.as_slice().join(alloc, "\n")?;
+        lines.push('\n')?;
+        Ok(Answer::Done(lines.into_bytes()))
+    }
+
+    /// Returns the value of a part in a line, in which nothing is hidden: as JSON if that is asked
+    /// for, or if it holds others.
+    fn cell_of(
+        &self,
+        path: &str,
+        part: &View<'_, '_>,
+    ) -> Result<Result<String, JsonError>, AllocError> {
+        let (alloc, call) = (self.context.alloc, self.context.call);
+        if !call.has_json {
+            if let Some(text) = line_text(alloc, self.context.known, path, part)? {
+                return Ok(Ok(visible(alloc, Escaping::Line, text.as_str())?));
+            }
+        }
+        match to_json(
+            alloc,
+            part.schema,
+            part.type_id,
+            part.value,
+            Layout::Compact,
+        ) {
+            Ok(text) => Ok(Ok(printed(alloc, Escaping::Json, text)?)),
+            Err(error) if error.is_out_of_memory() => Err(AllocError),
+            Err(error) => Ok(Err(error)),
+        }
     }
 
     /// Returns it as JSON: in one line if a line holds a message.
@@ -437,11 +631,10 @@ impl Message<'_, '_> {
     fn json_of(&self, value: &Value<'_>) -> Answered {
         let (alloc, (_, schema, root)) = (self.context.alloc, self.wanted.parts());
         match to_json(alloc, schema, root, value, self.context.call.layout()) {
-            Ok(text) => {
-                let mut text = printed(alloc, Escaping::Json, text)?;
-                text.push('\n')?;
-                Ok(Answer::Done(text.into_bytes()))
+            Ok(text) if self.context.call.has_exact_numbers => {
+                json_line(alloc, exact_numbers(alloc, text.as_str())?)
             }
+            Ok(text) => json_line(alloc, text),
             Err(error) if error.is_out_of_memory() => Err(AllocError),
             Err(error) => refused_for(alloc, &error),
         }
@@ -468,7 +661,20 @@ impl Message<'_, '_> {
         match encode(alloc, rule, schema, root, text) {
             Ok(octets) => in_form(alloc, self.input, octets),
             Err(error) if error.is_out_of_memory() => Err(AllocError),
-            Err(error) => refused_for(alloc, &error),
+            Err(error) => self.not_encoded(error),
+        }
+    }
+
+    /// Returns why JSON isn't encoded, with the name that was probably meant by one that isn't known.
+    fn not_encoded(&self, error: EncodeJsonError) -> Answered {
+        let (alloc, wanted) = (self.context.alloc, self.wanted);
+        match error {
+            EncodeJsonError::Json(error) => {
+                let meant = meant_by(alloc, wanted.schema.types(), wanted.root, &error)?;
+                let error = error_after(self.input.before, error);
+                refused_for(alloc, &format!(in alloc; "{error}{meant}")?)
+            }
+            EncodeJsonError::Encode(error) => refused_for(alloc, &error),
         }
     }
 
@@ -498,6 +704,13 @@ impl Message<'_, '_> {
             }
         }
     }
+}
+
+/// Returns JSON as it is printed, with the end of its line.
+fn json_line(alloc: Global, text: String) -> Answered {
+    let mut text = printed(alloc, Escaping::Json, text)?;
+    text.push('\n')?;
+    Ok(Answer::Done(text.into_bytes()))
 }
 
 /// Returns whether memory ran out.
@@ -534,6 +747,19 @@ pub(crate) fn printed(
 ) -> Result<String, AllocError> {
     if text.chars().any(|it| it != '\n' && is_hidden(it)) {
         return visible(alloc, escaping, text.as_str());
+    }
+    Ok(text)
+}
+
+/// Returns lines as they are printed, in colour if that is asked for.
+pub(crate) fn lines_shown(
+    alloc: Global,
+    is_colored: bool,
+    text: String,
+) -> Result<String, AllocError> {
+    let text = printed(alloc, Escaping::Lines, text)?;
+    if is_colored {
+        return colored(alloc, text.as_str());
     }
     Ok(text)
 }

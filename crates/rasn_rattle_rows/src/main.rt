@@ -1,5 +1,5 @@
 //! Prints the files of crates that are written of modules. Standard input has a line for each
-//! crate, with the words by which `soqavise rust` writes it, and then the texts of the modules'
+//! crate, with the words by which `soqavise generate` writes it, and then the texts of the modules'
 //! files, each after a line with the file's name.
 #![tactic(auto)]
 

@@ -17,6 +17,7 @@ pub mod Depth
 pub mod Clash
 pub mod Fitted
 pub mod Reach
+pub mod Made
 pub mod RulesAt
 pub mod Significant
 pub mod ListsOf

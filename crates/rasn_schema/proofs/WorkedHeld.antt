@@ -1,5 +1,5 @@
 -- Parts, names and copies of values that were worked out by hand.
-use Rattle.std.proofs.Common.{◌≡◌, ◌≢◌, ℕ, zero, suc, List, [], ◌∷◌, String, Vec, Global, Some, None, refl, sym, ap, ◌∙◌, subst, arith}
+use Rattle.std.proofs.Common.{◌≡◌, ◌≢◌, ℕ, zero, suc, List, [], ◌∷◌, Bool, true, false, String, Vec, Global, Some, None, refl, sym, ap, ◌∙◌, subst, arith}
 use Rattle.std.specs.Prelude.{slice_get}
 use Rattle.std.specs.String.{string_bytes}
 use Rattle.rasn_types.specs.Tags.{eoc}
@@ -14,6 +14,8 @@ use Rattle.rasn_schema.specs.declared.value.Value.{Value, Octets, Text}
 use Rattle.rasn_schema.specs.Held.{IsTagged, IsInside, IsUntagged, held_in, part_type, part_name, IsPartAt, IsComponentNamed, IsComponentValue, IsAlternativeNamed, IsPartNamed, IsNamedPartOf}
 use Rattle.rasn_schema.specs.Named.{IsFirstNamed}
 use Rattle.rasn_schema.specs.Copies.{IsCopy}
+use Rattle.rasn_schema.specs.Made.{HasPart, IsMadeOf, IsReachedFrom}
+use Rattle.rasn_types.specs.Truth.{IsWhether}
 use Rattle.rasn_schema.specs.WorkedHeld.{tagged_any, list_alone, WorkedHeld}
 use Rattle.rasn_schema.proofs.Lists.{some_is}
 use Rattle.rasn_schema.proofs.Parts.{not_none}
@@ -90,6 +92,35 @@ second_type_named : (m n : TypeName) → m.type_id ≢ n.type_id → string_byte
 second_type_named m n d s (zero, t, at, e, i, first) = d (ap (λ (x : TypeName). x.type_id) (some_is m t (sym at)) ∙ i)
 second_type_named m n d s (suc j, t, at, e, i, first) = first 0 m (omega arith) refl refl
 
+-- ---- what types are made of
+
+from_its_tag : IsReachedFrom tagged_any (record { 0 = 1 } ∷ []) 0
+unfolding IsMadeOf
+from_its_tag = (omega arith, 1, (0, record { 0 = 1 }, refl, refl), 1, (0, (Tagged eoc (record { 0 = 0 }), refl, 0, record { 0 = 0 }, refl, refl), refl))
+
+tag_itself : IsReachedFrom tagged_any (record { 0 = 1 } ∷ []) 1
+unfolding IsMadeOf
+tag_itself = (omega arith, 1, (0, record { 0 = 1 }, refl, refl), 0, refl)
+
+no_part_of_any : (m : ℕ) → HasPart tagged_any 0 m → ⊥
+no_part_of_any m (ty, e, i, id, f, g) = not_none id None refl (subst (λ t. Some id ≡ part_type t i) (some_is ty (Any eoc) e) f)
+
+only_any : (n : ℕ) → IsMadeOf tagged_any n 0 1 → ⊥
+unfolding IsMadeOf
+only_any zero h = omega (arith, h)
+only_any (suc n) (j, p, h) = no_part_of_any j p
+
+tag_not_reached : IsReachedFrom tagged_any (record { 0 = 0 } ∷ []) 1 → ⊥
+tag_not_reached (l, k, (zero, id, e, h), n, w) = only_any n (subst (λ x. IsMadeOf tagged_any n x 1) (sym h ∙ ap (λ (x : TypeId). x.0) (some_is id (record { 0 = 0 }) e)) w)
+tag_not_reached (l, k, (suc j, id, e, h), n, w) = not_none id None refl e
+
+both : (k : ℕ) (b : Bool) → Some b ≡ slice_get (true ∷ (true ∷ [])) k → IsWhether b (IsReachedFrom tagged_any (record { 0 = 1 } ∷ []) k)
+both zero true e = from_its_tag
+both zero false e = cc
+both (suc zero) true e = tag_itself
+both (suc zero) false e = cc
+both (suc (suc k)) b e = absurd (not_none b None refl e)
+
 -- ---- copies
 
 no_text : (o s : _) → IsCopy (Octets o) (Text s) → ⊥
@@ -129,4 +160,9 @@ worked_held = record {
   copy_of_octets = λ o p e. (p, refl, e);
   text_is_no_copy_of_octets = no_text;
   set_is_no_copy_of_a_list = λ vs ws h. h;
+  any_reached_from_its_tag = from_its_tag;
+  tag_not_reached_from_any = tag_not_reached;
+  nothing_reached_from_none = λ k (l, r, (j, id, e, h), n, w). not_none id None refl e;
+  both_reached = (refl, both);
+  not_both_reached = λ h. tag_not_reached (h.1 1 true refl);
 }

@@ -14,6 +14,7 @@ pub mod Named
 pub mod Depth
 pub mod Fitting
 pub mod Reach
+pub mod Made
 pub mod Copies
 pub mod Shown
 pub mod WorkedHeld

@@ -1,4 +1,4 @@
--- Parts, names and copies of values that were worked out by hand, and what is none.
+-- Parts, names and copies of values that were worked out by hand, what types are made of, and what is none.
 use Rattle.std.specs.Prelude.{◌≡◌, ◌≢◌, ℕ, pos, List, [], ◌∷◌, true, Vec, String, Some, None}
 use Rattle.std.specs.Global.{Global}
 use Rattle.std.specs.String.{string_bytes}
@@ -15,6 +15,7 @@ use Rattle.rasn_schema.specs.declared.value.Value.{Value, Boolean, Null, Integer
 use Rattle.rasn_schema.specs.Held.{IsUntagged, held_in, part_type, part_name, IsPartAt, IsComponentNamed, IsComponentValue, IsAlternativeNamed, IsChosenValue, IsPartNamed, IsNamedPartOf}
 use Rattle.rasn_schema.specs.Named.{IsFirstNamed, IsUnnamed}
 use Rattle.rasn_schema.specs.Copies.{IsCopy}
+use Rattle.rasn_schema.specs.Made.{IsReachedFrom, AreReachedFrom}
 
 -- An open type, which has number 0, and it in an explicit tag.
 abbrev pub tagged_any : List «Type»
@@ -57,3 +58,8 @@ pub record WorkedHeld : Type 0 where
   pub copy_of_octets : (o p : _) → cow_slice_items p ≡ cow_slice_items o → IsCopy (Octets o) (Octets p)
   pub text_is_no_copy_of_octets : (o s : _) → IsCopy (Octets o) (Text s) → ⊥
   pub set_is_no_copy_of_a_list : (vs ws : Vec Value Global) → IsCopy (Items vs) (Elements ws) → ⊥
+  pub any_reached_from_its_tag : IsReachedFrom tagged_any (record { 0 = 1 } ∷ []) 0
+  pub tag_not_reached_from_any : IsReachedFrom tagged_any (record { 0 = 0 } ∷ []) 1 → ⊥
+  pub nothing_reached_from_none : (k : ℕ) → IsReachedFrom tagged_any [] k → ⊥
+  pub both_reached : AreReachedFrom tagged_any (record { 0 = 1 } ∷ []) (true ∷ (true ∷ []))
+  pub not_both_reached : AreReachedFrom tagged_any (record { 0 = 0 } ∷ []) (true ∷ (true ∷ [])) → ⊥

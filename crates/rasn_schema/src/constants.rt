@@ -1,7 +1,7 @@
 //! Schemas that are constants: the types of a crate as data, whose shapes are proved to be those of
 //! its Rattle types.
 //!
-//! `soqavise rust` writes such a constant beside the types that it writes. [`types_of`] makes of it
+//! `soqavise generate` writes such a constant beside the types that it writes. [`types_of`] makes of it
 //! the types of a [`crate::Schema`].
 //!
 //! ```

@@ -3,8 +3,8 @@ ghost use Rattle.rasn_schema.specs.WorkedHeld.{WorkedHeld};
 ghost use Rattle.rasn_schema.specs.WorkedFitting.{WorkedFitting};
 ghost use Rattle.rasn_schema.specs.WorkedRules.{WorkedRules};
 
-/// Proves which values are parts, which have names, and which are copies, and which aren't. The
-/// function does nothing when it runs.
+/// Proves which values are parts, which have names and which are copies, what types are made of,
+/// and what is none of these. The function does nothing when it runs.
 pub fn worked_held()
     ensures { WorkedHeld }
 {}

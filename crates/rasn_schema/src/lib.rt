@@ -25,6 +25,7 @@ mod type_id;
 mod types;
 mod value;
 mod view;
+mod walk;
 
 pub use begin::{alternative_for, begins, is_choice_at};
 pub use defaults::unfit_default_at;

@@ -82,18 +82,39 @@ fn print_answer<W: Write>(
     output: &mut W,
 ) -> io::Result<()> {
     let (table, id) = named;
-    let schema = match Schema::new(types_of(alloc, table)?) {
-        Ok(schema) => schema,
-        Err(error) => return writeln!(output, "  has no schema: {error}"),
-    };
     let digits = joined(alloc, digits)?;
-    let Ok(octets) = hex::decode(alloc, digits.as_bytes()) else {
-        return writeln!(output, "  has no octets");
-    };
+    match Schema::new(types_of(alloc, table)?) {
+        Ok(schema) => print_by(alloc, (&schema, id), question, digits.as_bytes(), output),
+        Err(error) => writeln!(output, "  has no schema: {error}"),
+    }
+}
+
+/// Prints what is asked of the octets that digits denote, by a schema.
+fn print_by<W: Write>(
+    alloc: Global,
+    named: (&Schema, TypeId),
+    question: Question,
+    digits: &[u8],
+    output: &mut W,
+) -> io::Result<()> {
+    match hex::decode(alloc, digits) {
+        Ok(octets) => print_octets(alloc, named, question, &octets, output),
+        Err(_) => writeln!(output, "  has no octets"),
+    }
+}
+
+/// Prints what is asked of the octets.
+fn print_octets<W: Write>(
+    alloc: Global,
+    (schema, id): (&Schema, TypeId),
+    question: Question,
+    octets: &[u8],
+    output: &mut W,
+) -> io::Result<()> {
     match question {
-        Question::Typed => { print_all(alloc, &schema, id, &octets, OpenTypes::Unexamined, output) }
-        Question::Open => { print_all(alloc, &schema, id, &octets, OpenTypes::Examined, output) }
-        Question::First => print_first(alloc, &schema, id, &octets, output),
+        Question::Typed => print_all(alloc, schema, id, octets, OpenTypes::Unexamined, output),
+        Question::Open => print_all(alloc, schema, id, octets, OpenTypes::Examined, output),
+        Question::First => print_first(alloc, schema, id, octets, output),
     }
 }
 

@@ -50,29 +50,59 @@ pub fn answer_of(
     verb: &str,
     text: &str,
 ) -> Result<String, AllocError> {
-    let Some(row) = row_of(text) else {
-        return String::from_str(alloc, "is no row");
-    };
+    match row_of(text) {
+        Some(row) => row_answer(alloc, read, verb, &row),
+        None => String::from_str(alloc, "is no row"),
+    }
+}
+
+/// Returns the result of a row by the schema of its type.
+fn row_answer(
+    alloc: Global,
+    read: &Modules<'_>,
+    verb: &str,
+    row: &Row<'_>,
+) -> Result<String, AllocError> {
     match read.schema(alloc, row.module, row.name) {
-        Ok(resolved) => match verb {
-            "read" => read_message(alloc, &resolved, &row),
-            "encode" => encoded(alloc, &resolved, &row),
-            "json" => printed(alloc, &resolved, &row, Layout::Compact),
-            "indented" => printed(alloc, &resolved, &row, Layout::Indented),
-            "again" => again(alloc, &resolved, &row),
-            _ => String::from_str(alloc, "is of no verb"),
-        },
+        Ok(resolved) => answer_by(alloc, &resolved, verb, row),
         Err(stop) => format!(in alloc; "has no schema: {stop}"),
+    }
+}
+
+/// Returns the result of a row by a schema.
+fn answer_by(
+    alloc: Global,
+    resolved: &Resolved,
+    verb: &str,
+    row: &Row<'_>,
+) -> Result<String, AllocError> {
+    match verb {
+        "read" => read_message(alloc, resolved, row),
+        "encode" => encoded(alloc, resolved, row),
+        "json" => printed(alloc, resolved, row, Layout::Compact),
+        "indented" => printed(alloc, resolved, row, Layout::Indented),
+        "again" => again(alloc, resolved, row),
+        _ => String::from_str(alloc, "is of no verb"),
     }
 }
 
 /// Returns the DER octets of the message and how many octets follow it, or where it is refused and
 /// why.
 fn read_message(alloc: Global, resolved: &Resolved, row: &Row<'_>) -> Result<String, AllocError> {
-    let Some(octets) = octets_of(alloc, row.text)? else {
-        return String::from_str(alloc, "has no octets");
-    };
-    match decode_or_locate(alloc, row.rules, &resolved.schema, resolved.root, &octets) {
+    match octets_of(alloc, row.text)? {
+        Some(octets) => read_octets(alloc, resolved, row.rules, &octets),
+        None => String::from_str(alloc, "has no octets"),
+    }
+}
+
+/// Returns the same of octets.
+fn read_octets(
+    alloc: Global,
+    resolved: &Resolved,
+    rules: Codec,
+    octets: &[u8],
+) -> Result<String, AllocError> {
+    match decode_or_locate(alloc, rules, &resolved.schema, resolved.root, octets) {
         Ok((value, rest)) => written(alloc, resolved, &value, rest.len()),
         Err(refusal) => {
             let shown = refusal.with_names(&resolved.schema, resolved.root);

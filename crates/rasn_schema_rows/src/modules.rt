@@ -87,15 +87,26 @@ fn print_type<'text, W: Write>(
     counts: &mut Counts,
     output: &mut W,
 ) -> io::Result<()> {
-    let resolved = match read.schema(alloc, module, name) {
-        Ok(resolved) => resolved,
-        Err(stop) => return writeln!(output, "type\t{module}.{name}\t{stop}"),
-    };
+    match read.schema(alloc, module, name) {
+        Ok(resolved) => print_schema(alloc, (module, name), &resolved, counts, output),
+        Err(stop) => writeln!(output, "type\t{module}.{name}\t{stop}"),
+    }
+}
+
+/// Counts a type that has a schema, and prints why that isn't read again from the module that it is
+/// shown as or from its octets.
+fn print_schema<W: Write>(
+    alloc: Global,
+    (module, name): (&str, &str),
+    resolved: &Resolved,
+    counts: &mut Counts,
+    output: &mut W,
+) -> io::Result<()> {
     counts.loaded = counts.loaded.saturating_add(1);
-    if let Some(difference) = difference(alloc, &resolved, name)? {
+    if let Some(difference) = difference(alloc, resolved, name)? {
         return writeln!(output, "shown\t{module}.{name}\t{difference}");
     }
-    if let Some(difference) = octets_difference(alloc, &resolved)? {
+    if let Some(difference) = octets_difference(alloc, resolved)? {
         return writeln!(output, "octets\t{module}.{name}\t{difference}");
     }
     counts.same = counts.same.saturating_add(1);
@@ -122,23 +133,36 @@ fn difference_from<'text>(
 ) -> Result<Option<String>, AllocError> {
     let sources = [Source { name, text }];
     let read = Modules::parse(alloc, &sources)?;
+    difference_in(alloc, resolved, name, &read)
+}
+
+/// Returns why a module doesn't have the same types as the schema, if it hasn't.
+fn difference_in(
+    alloc: Global,
+    resolved: &Resolved,
+    name: &str,
+    read: &Modules<'_>,
+) -> Result<Option<String>, AllocError> {
     if let Some(fault) = read.faults.first() {
-        return Ok(Some(format!(in alloc; "{fault}")?));
+        return format!(in alloc; "{fault}").map(Some);
     }
-    let again = match read.schema(alloc, "Schema", name) {
-        Ok(again) => again,
-        Err(stop) => return Ok(Some(format!(in alloc; "{stop}")?)),
-    };
-    if are_same(
-        alloc,
-        &resolved.schema,
-        resolved.root,
-        &again.schema,
-        again.root,
-    )? {
+    match read.schema(alloc, "Schema", name) {
+        Ok(again) => difference_of(alloc, resolved, &again.schema, again.root),
+        Err(stop) => format!(in alloc; "{stop}").map(Some),
+    }
+}
+
+/// Returns that a type of another schema isn't the same, if it isn't.
+fn difference_of(
+    alloc: Global,
+    resolved: &Resolved,
+    schema: &Schema,
+    root: TypeId,
+) -> Result<Option<String>, AllocError> {
+    if are_same(alloc, &resolved.schema, resolved.root, schema, root)? {
         return Ok(None);
     }
-    Ok(Some(String::from_str(alloc, "other types")?))
+    String::from_str(alloc, "other types").map(Some)
 }
 
 /// Prints whether a type of a module, if it is there, is that of a table of constants.
@@ -149,15 +173,27 @@ fn print_table<W: Write>(
     (table, root): (&[StaticType], TypeId),
     output: &mut W,
 ) -> io::Result<()> {
-    let Ok(resolved) = read.schema(alloc, module, name) else {
-        return Ok(());
-    };
-    let Ok(schema) = Schema::new(types_of(alloc, table)?) else {
-        return writeln!(output, "table\t{module}.{name}\tno schema");
-    };
-    if are_same(alloc, &resolved.schema, resolved.root, &schema, root)? {
-        writeln!(output, "table\t{module}.{name}\tthe same")
-    } else {
-        writeln!(output, "table\t{module}.{name}\tanother")
+    match read.schema(alloc, module, name) {
+        Ok(resolved) => {
+            let answer = table_answer(alloc, &resolved, table, root)?;
+            writeln!(output, "table\t{module}.{name}\t{answer}")
+        }
+        Err(_) => Ok(()),
+    }
+}
+
+/// Returns whether a type is that of a table of constants.
+fn table_answer(
+    alloc: Global,
+    resolved: &Resolved,
+    table: &[StaticType],
+    root: TypeId,
+) -> Result<&'static str, AllocError> {
+    match Schema::new(types_of(alloc, table)?) {
+        Ok(schema) => match difference_of(alloc, resolved, &schema, root)? {
+            None => Ok("the same"),
+            Some(_) => Ok("another"),
+        },
+        Err(_) => Ok("no schema"),
     }
 }

@@ -4,15 +4,18 @@ use crate::departures::print_departures;
 use crate::library::print_library;
 use crate::messages::answer_of;
 use crate::modules::print_modules;
-use crate::types::print_types;
+use crate::types::print_file;
 use rasn_compiler::Modules;
 use std::io::{self, BufRead, BufReader, BufWriter, Write};
 
-/// Prints the lines of standard input, each row with its result.
+/// Prints the faults of the modules, and the lines of standard input, each row with its result.
 pub fn print_rows(rt: &HostRuntime, read: &Modules<'_>) -> io::Result<()> {
     let alloc = rt.alloc();
     let input = BufReader::new(alloc, rt.stdin())?;
     let mut output = BufWriter::new(alloc, rt.stdout())?;
+    for fault in &read.faults {
+        writeln!(output, "fault\t{fault}")?;
+    }
     for line in input.lines(alloc) {
         let line = line?;
         print_row(rt, read, &line, &mut output)?;
@@ -42,9 +45,9 @@ fn print_row<W: Write>(
             writeln!(output, "{line}")?;
             print_library(rt, read, rest, output)
         }
-        "types" => {
+        "types" | "warnings" | "identifiers" => {
             writeln!(output, "{line}")?;
-            print_types(rt, rest, output)
+            print_file(rt, verb, rest, output)
         }
         "typed" | "open" | "first" => {
             writeln!(output, "{line}")?;

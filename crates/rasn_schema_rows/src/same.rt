@@ -107,48 +107,58 @@ fn compare(
     right: TypeId,
     pairs: &mut Pairs,
 ) -> Result<bool, AllocError> {
-    let Some(left) = type_at(one.types(), left) else {
-        return Ok(false);
-    };
-    let Some(right) = type_at(other.types(), right) else {
-        return Ok(false);
-    };
-    if head_of(left) != head_of(right) || !are_same_numbers(numbers(left), numbers(right)) {
-        return Ok(false);
+    match (type_at(one.types(), left), type_at(other.types(), right)) {
+        (Some(left), Some(right)) if is_same_head(left, right) => {
+            let ones = parts(alloc, left)?;
+            let others = parts(alloc, right)?;
+            pairs.add_parts(ones.as_slice(), others.as_slice())
+        }
+        _ => Ok(false),
     }
-    let ones = parts(alloc, left)?;
-    let others = parts(alloc, right)?;
-    pairs.add_parts(ones.as_slice(), others.as_slice())
+}
+
+/// Returns whether two types are the same except for the types that they are made of.
+fn is_same_head(left: &Type, right: &Type) -> bool {
+    head_of(left) == head_of(right) && are_same_numbers(numbers(left), numbers(right))
 }
 
 /// Returns what a type is.
 fn head_of(ty: &Type) -> Head {
-    let none = Constraints::NONE;
-    let (form, constraints) = match ty {
-        Type::Leaf {
-            kind,
-            constraints,
-            ..
-        } => (Form::Leaf(*kind), *constraints),
-        Type::Enumerated { .. } => (Form::Enumerated, none),
-        Type::Any { .. } => (Form::Any, none),
-        Type::Unknown => (Form::Unknown, none),
-        Type::Tagged { .. } => (Form::Tagged, none),
-        Type::Choice { .. } => (Form::Choice, none),
-        Type::Sequence { .. } => (Form::Sequence, none),
-        Type::Set { .. } => (Form::Set, none),
-        Type::SequenceOf { constraints, .. } => (Form::SequenceOf, *constraints),
-        Type::SetOf { constraints, .. } => (Form::SetOf, *constraints),
-    };
     Head {
-        form,
+        form: form_of(ty),
         tag: ty.tag(),
-        constraints,
+        constraints: constraints_of(ty),
+    }
+}
+
+/// Returns the alternative that a type is.
+fn form_of(ty: &Type) -> Form {
+    match ty {
+        Type::Leaf { kind, .. } => Form::Leaf(*kind),
+        Type::Enumerated { .. } => Form::Enumerated,
+        Type::Any { .. } => Form::Any,
+        Type::Unknown => Form::Unknown,
+        Type::Tagged { .. } => Form::Tagged,
+        Type::Choice { .. } => Form::Choice,
+        Type::Sequence { .. } => Form::Sequence,
+        Type::Set { .. } => Form::Set,
+        Type::SequenceOf { .. } => Form::SequenceOf,
+        Type::SetOf { .. } => Form::SetOf,
+    }
+}
+
+/// Returns the constraints of a type, which only leaves and repeated types have.
+pub fn constraints_of(ty: &Type) -> Constraints {
+    match ty {
+        Type::Leaf { constraints, .. }
+        | Type::SequenceOf { constraints, .. }
+        | Type::SetOf { constraints, .. } => *constraints,
+        _ => Constraints::NONE,
     }
 }
 
 /// Returns the names of a type's numbers.
-fn numbers(ty: &Type) -> &[NamedNumber] {
+pub fn numbers(ty: &Type) -> &[NamedNumber] {
     match ty {
         Type::Leaf { names, .. } => names.as_slice(),
         Type::Enumerated { numbers, .. } => numbers.as_slice(),

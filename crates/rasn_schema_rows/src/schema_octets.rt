@@ -13,27 +13,53 @@ pub fn octets_difference(alloc: Global, resolved: &Resolved) -> Result<Option<St
         root,
         unchecked,
     } = resolved;
-    let octets = match write(alloc, schema, *root, *unchecked) {
-        Ok(octets) => octets,
-        Err(WriteFault::OutOfMemory) => return Err(AllocError),
-        Err(fault) => return Ok(Some(format!(in alloc; "{fault}")?)),
-    };
-    let again = match read(alloc, &octets) {
-        Ok(again) => again,
-        Err(ReadFault::OutOfMemory) => return Err(AllocError),
-        Err(fault) => return Ok(Some(format!(in alloc; "{fault}")?)),
-    };
-    if !are_same(alloc, schema, *root, &again.schema, again.root)? {
-        return Ok(Some(String::from_str(alloc, "other types in octets")?));
+    match write(alloc, schema, *root, *unchecked) {
+        Ok(octets) => difference_in(alloc, resolved, &octets),
+        Err(WriteFault::OutOfMemory) => Err(AllocError),
+        Err(fault) => format!(in alloc; "{fault}").map(Some),
     }
-    if has_octets(alloc, &again, &octets) {
+}
+
+/// Returns why the schema isn't read from these octets, if it isn't.
+fn difference_in(
+    alloc: Global,
+    resolved: &Resolved,
+    octets: &[u8],
+) -> Result<Option<String>, AllocError> {
+    match read(alloc, octets) {
+        Ok(again) => difference_of(alloc, resolved, &again, octets),
+        Err(ReadFault::OutOfMemory) => Err(AllocError),
+        Err(fault) => format!(in alloc; "{fault}").map(Some),
+    }
+}
+
+/// Returns how a schema that is read from octets differs, if it does: in its types, or in its
+/// octets.
+fn difference_of(
+    alloc: Global,
+    resolved: &Resolved,
+    again: &Compiled,
+    octets: &[u8],
+) -> Result<Option<String>, AllocError> {
+    if !are_same(
+        alloc,
+        &resolved.schema,
+        resolved.root,
+        &again.schema,
+        again.root,
+    )? {
+        return String::from_str(alloc, "other types in octets").map(Some);
+    }
+    if has_octets(alloc, again, octets) {
         return Ok(None);
     }
-    Ok(Some(String::from_str(alloc, "other octets")?))
+    String::from_str(alloc, "other octets").map(Some)
 }
 
 /// Returns whether these are the octets of the schema.
 fn has_octets(alloc: Global, compiled: &Compiled, octets: &[u8]) -> bool {
-    let written = write(alloc, &compiled.schema, compiled.root, compiled.unchecked);
-    written.is_ok_and(|found| found.as_slice() == octets)
+    match write(alloc, &compiled.schema, compiled.root, compiled.unchecked) {
+        Ok(found) => found.as_slice() == octets,
+        Err(_) => false,
+    }
 }

@@ -1,8 +1,10 @@
 //! Types of a schema as text.
+use crate::same::{constraints_of, numbers};
 use rasn_compiler::Resolved;
 use rasn_schema::{Alternative, Component, NamedNumber, Presence, Schema, Type, TypeId};
-use rasn_types::types::{Bounded, Class, Constraints, Tag};
+use rasn_types::types::{Bound, Class, Constraints, Tag};
 use std::alloc::{AllocError, Global};
+use std::fmt::Display;
 
 /// How deep types are shown in one another. Deeper ones are `..`.
 const MAX_LEVELS: usize = 4;
@@ -97,53 +99,31 @@ fn push_presence(
     }
 }
 
-/// Adds the name of a type, its tag and its bounds, and the names of its numbers.
-fn push_head(text: &mut String, ty: &Type) -> Result<(), AllocError> {
+/// Returns the word for a type that isn't a leaf.
+fn word(ty: &Type) -> &'static str {
     match ty {
-        Type::Choice { .. } => text.push_str("CHOICE"),
-        Type::Sequence { tag, .. } => push_tagged(text, "SEQUENCE", *tag),
-        Type::Set { tag, .. } => push_tagged(text, "SET", *tag),
-        Type::Tagged { tag, .. } => push_tagged(text, "explicit", *tag),
-        Type::SequenceOf {
-            tag,
-            constraints,
-            ..
-        } => {
-            push_tagged(text, "SEQUENCE", *tag)?;
-            push_constraints(text, constraints)
-        }
-        Type::SetOf {
-            tag,
-            constraints,
-            ..
-        } => {
-            push_tagged(text, "SET", *tag)?;
-            push_constraints(text, constraints)
-        }
-        Type::Unknown => text.push_str("unknown"),
-        Type::Leaf {
-            kind,
-            tag,
-            constraints,
-            names,
-        } => {
-            write!(text, "{kind:?}")?;
-            push_tag(text, *tag)?;
-            push_constraints(text, constraints)?;
-            push_numbers(text, names)
-        }
-        Type::Enumerated { tag, numbers } => {
-            push_tagged(text, "ENUMERATED", *tag)?;
-            push_numbers(text, numbers)
-        }
-        Type::Any { tag } if *tag == Tag::EOC => text.push_str("ANY"),
-        Type::Any { tag } => push_tagged(text, "ANY", *tag),
+        Type::Choice { .. } => "CHOICE",
+        Type::Sequence { .. } | Type::SequenceOf { .. } => "SEQUENCE",
+        Type::Set { .. } | Type::SetOf { .. } => "SET",
+        Type::Tagged { .. } => "explicit",
+        Type::Unknown => "unknown",
+        Type::Enumerated { .. } => "ENUMERATED",
+        Type::Any { .. } => "ANY",
+        Type::Leaf { .. } => "",
     }
 }
 
-fn push_tagged(text: &mut String, word: &str, tag: Tag) -> Result<(), AllocError> {
-    text.push_str(word)?;
-    push_tag(text, tag)
+/// Adds the name of a type, its tag and its bounds, and the names of its numbers.
+fn push_head(text: &mut String, ty: &Type) -> Result<(), AllocError> {
+    match ty {
+        Type::Leaf { kind, .. } => write!(text, "{kind:?}")?,
+        _ => text.push_str(word(ty))?,
+    }
+    if ty.tag() != Tag::EOC {
+        push_tag(text, ty.tag())?;
+    }
+    push_constraints(text, &constraints_of(ty))?;
+    push_numbers(text, numbers(ty))
 }
 
 fn push_tag(text: &mut String, tag: Tag) -> Result<(), AllocError> {
@@ -166,15 +146,22 @@ fn push_numbers(text: &mut String, numbers: &[NamedNumber]) -> Result<(), AllocE
 }
 
 fn push_constraints(text: &mut String, constraints: &Constraints) -> Result<(), AllocError> {
-    if let Some(bound) = constraints.value {
-        let bounds: Bounded<i128> = bound.constraint;
-        let marker = if bound.extensible { ", ..." } else { "" };
-        write!(text, " ({bounds}{marker})")?;
+    if let Some(bound) = &constraints.value {
+        push_bound(text, "", bound)?;
     }
-    if let Some(bound) = constraints.size {
-        let bounds: Bounded<usize> = bound.constraint;
-        let marker = if bound.extensible { ", ..." } else { "" };
-        write!(text, " SIZE ({bounds}{marker})")?;
+    if let Some(bound) = &constraints.size {
+        push_bound(text, "SIZE ", bound)?;
     }
     Ok(())
+}
+
+/// Adds bounds after a word.
+fn push_bound<T: Display>(
+    text: &mut String,
+    word: &str,
+    bound: &Bound<T>,
+) -> Result<(), AllocError> {
+    let marker = if bound.extensible { ", ..." } else { "" };
+    let bounds = &bound.constraint;
+    write!(text, " {word}({bounds}{marker})")
 }

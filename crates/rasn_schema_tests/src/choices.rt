@@ -2,6 +2,7 @@
 //! another.
 
 use crate::faults;
+use crate::types::made;
 use rasn_dynamic::{decode, decode_or_locate, encode};
 use rasn_schema::constants::prelude::*;
 use rasn_schema::constants::types_of;
@@ -23,11 +24,15 @@ const TYPES: &[StaticType] = &[
 
 const SEQUENCE: TypeId = TypeId(4);
 
-/// Returns the octets that the value of these octets is written as under DER.
-fn written_back(alloc: Global, octets: &[u8]) -> Option<Vec<u8>> {
-    let schema = Schema::new(types_of(alloc, TYPES).ok()?).ok()?;
-    let value = decode(alloc, Codec::Der, &schema, SEQUENCE, octets).ok()?;
-    encode(alloc, Codec::Der, &schema, SEQUENCE, &value).ok()
+/// Returns whether the value of these octets is written as them under DER.
+fn is_kept(alloc: Global, schema: &Schema, octets: &[u8]) -> bool {
+    match decode(alloc, Codec::Der, schema, SEQUENCE, octets) {
+        Ok(value) => match encode(alloc, Codec::Der, schema, SEQUENCE, &value) {
+            Ok(written) => written.as_slice() == octets,
+            Err(_) => false,
+        },
+        Err(_) => false,
+    }
 }
 
 // X.690 8.9, 8.13: the octets are put together by hand.
@@ -38,33 +43,43 @@ fn choices_are_present_or_absent(rt: HostRuntime) {
         &[0x30, 6, 1, 1, 0xFF, 2, 1, 7],
         &[0x30, 6, 0x80, 1, 5, 2, 1, 7],
     ];
+    let schema = made(&rt, rt.alloc(), TYPES);
     for octets in ROWS {
-        let written = written_back(rt.alloc(), octets);
-        assert!(rt; matches!(&written, Some(found) if found.as_slice() == *octets));
+        assert!(rt; is_kept(rt.alloc(), &schema, octets));
     }
 }
 
-/// Returns the offset and the steps of the refusal of these octets.
-fn refused_at(alloc: Global, octets: &[u8]) -> Option<(usize, Vec<usize>)> {
-    let schema = Schema::new(types_of(alloc, TYPES).ok()?).ok()?;
-    let refusal = decode_or_locate(alloc, Codec::Der, &schema, SEQUENCE, octets).err()?;
-    Some((refusal.offset, refusal.steps))
+/// Returns whether these octets are refused at this offset, at the end of these steps.
+fn is_refused_at(
+    alloc: Global,
+    schema: &Schema,
+    octets: &[u8],
+    offset: usize,
+    steps: &[usize],
+) -> bool {
+    match decode_or_locate(alloc, Codec::Der, schema, SEQUENCE, octets) {
+        Ok(_) => false,
+        Err(refusal) => refusal.offset == offset && refusal.steps.as_slice() == steps,
+    }
 }
 
 // A second alternative is at the place of the number.
 #[test]
 fn two_choices_are_refused(rt: HostRuntime) {
     const BOTH: &[u8] = &[0x30, 9, 1, 1, 0xFF, 0x80, 1, 5, 2, 1, 7];
-    let refused = refused_at(rt.alloc(), BOTH);
-    assert!(rt; matches!(&refused, Some((5, steps)) if steps.as_slice() == [1].as_slice()));
+    let schema = made(&rt, rt.alloc(), TYPES);
+    assert!(rt; is_refused_at(rt.alloc(), &schema, BOTH, 5, &[1]));
 }
 
-/// Returns what is wrong with the SEQUENCE of these components.
-fn fault(alloc: Global, components: &'static [StaticComponent]) -> Option<SchemaError> {
+/// Returns the components that clash in the SEQUENCE of these components, added to the types.
+fn clash(alloc: Global, components: &'static [StaticComponent]) -> Option<(usize, usize)> {
     let mut defined = types_of(alloc, TYPES).ok()?;
     let sequence = types_of(alloc, &[Sequence(Tag::SEQUENCE, components)]).ok()?;
     defined.extend(sequence).ok()?;
-    Schema::new(defined).err()
+    match Schema::new(defined) {
+        Err(SchemaError::ComponentsClash { index, other, .. }) => Some((index, other)),
+        _ => None,
+    }
 }
 
 // X.680 25.6: the first tags of the CHOICE aren't those of what may follow.
@@ -76,28 +91,8 @@ fn choices_are_told_from_what_follows(rt: HostRuntime) {
         ("number", Optional, 3),
         ("count", Optional, 1),
     ];
-    let clash = fault(rt.alloc(), BEFORE_ITS_FLAG);
-    assert!(rt;
-        matches!(
-            clash,
-            Some(SchemaError::ComponentsClash {
-                index: 0,
-                other: 1,
-                ..
-            })
-        )
-    );
-    let clash = fault(rt.alloc(), BEFORE_ITS_COUNT);
-    assert!(rt;
-        matches!(
-            clash,
-            Some(SchemaError::ComponentsClash {
-                index: 0,
-                other: 2,
-                ..
-            })
-        )
-    );
+    assert!(rt; clash(rt.alloc(), BEFORE_ITS_FLAG) == Some((0, 1)));
+    assert!(rt; clash(rt.alloc(), BEFORE_ITS_COUNT) == Some((0, 2)));
 }
 
 /// Returns whether the indices of CHOICEs in one another, from the outermost on, are these, and the
@@ -113,23 +108,36 @@ fn is_chosen(outermost: &Value<'_>, path: &[usize], innermost: &Value<'_>) -> bo
     value.means_same(innermost)
 }
 
-/// Returns whether octets are read as such a value.
-fn is_read_as(alloc: Global, octets: &[u8], path: &[usize], innermost: &Value<'_>) -> Option<bool> {
-    let schema = Schema::new(types_of(alloc, faults::TYPES).ok()?).ok()?;
-    let value = decode(alloc, Codec::Der, &schema, TypeId(14), octets).ok()?;
-    Some(is_chosen(&value, path, innermost))
+/// Returns whether octets are read as such a value: a BOOLEAN, or a NULL if there is no truth.
+fn is_read_as(
+    alloc: Global,
+    schema: &Schema,
+    octets: &[u8],
+    path: &[usize],
+    truth: Option<bool>,
+) -> bool {
+    let innermost = match truth {
+        Some(truth) => Value::Boolean(truth),
+        None => Value::Null,
+    };
+    match decode(alloc, Codec::Der, schema, TypeId(14), octets) {
+        Ok(value) => is_chosen(&value, path, &innermost),
+        Err(_) => false,
+    }
 }
 
 // X.690 8.13.1: a CHOICE is encoded as its alternative, so all of them have the same octets.
 #[test]
 fn choices_in_one_another_are_read(rt: HostRuntime) {
+    const ROWS: &[(&[u8], &[usize], Option<bool>, bool)] = &[
+        (&[5, 0], &[0], None, true),
+        (&[1, 1, 0xFF], &[1, 1, 1, 0], Some(true), true),
+        (&[1, 1, 0], &[1, 1, 1, 0], Some(false), true),
+        (&[1, 1, 0], &[1, 1, 0, 0], Some(false), false),
+    ];
     let alloc = rt.alloc();
-    assert!(rt; is_read_as(alloc, &[5, 0], &[0], &Value::Null) == Some(true));
-    assert!(rt;
-        is_read_as(alloc, &[1, 1, 0xFF], &[1, 1, 1, 0], &Value::Boolean(true)) == Some(true)
-    );
-    assert!(rt; is_read_as(alloc, &[1, 1, 0], &[1, 1, 1, 0], &Value::Boolean(false)) == Some(true));
-    assert!(rt;
-        is_read_as(alloc, &[1, 1, 0], &[1, 1, 0, 0], &Value::Boolean(false)) == Some(false)
-    );
+    let schema = made(&rt, alloc, faults::TYPES);
+    for (octets, path, truth, is_so) in ROWS {
+        assert!(rt; is_read_as(alloc, &schema, octets, path, *truth) == *is_so);
+    }
 }

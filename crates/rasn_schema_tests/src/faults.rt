@@ -1,11 +1,12 @@
 //! Where an input is refused.
 
+use crate::types::made;
 use rasn_dynamic::{Refusal, check_or_locate, decode_or_locate};
 use rasn_schema::constants::prelude::*;
-use rasn_schema::constants::types_of;
 use rasn_schema::{Schema, TypeId};
 use rasn_types::types::Codec;
 use std::alloc::Global;
+use std::process::Abort;
 
 const PAIR: &[StaticComponent] = &[("flag", Required, 0), ("number", Required, 1)];
 
@@ -50,13 +51,31 @@ fn is_at(alloc: Global, refusal: &Refusal, schema: &Schema, id: TypeId, place: &
         && text.is_ok_and(|text| text.as_str().starts_with(*shown))
 }
 
-/// Returns whether octets are refused at this place, whether a value is made or not.
-fn is_refused_at(alloc: Global, id: TypeId, octets: &[u8], place: &Place) -> Option<bool> {
-    let schema = Schema::new(types_of(alloc, TYPES).ok()?).ok()?;
-    let refusal = decode_or_locate(alloc, Codec::Ber, &schema, id, octets).err()?;
-    let checked = check_or_locate(alloc, Codec::Ber, &schema, id, octets).err()?;
-    let is_there = is_at(alloc, &refusal, &schema, id, place);
-    Some(is_there && is_at(alloc, &checked, &schema, id, place))
+/// Returns whether octets are refused at this place when a value is to be made.
+fn is_unread_at(alloc: Global, schema: &Schema, row: &Row) -> bool {
+    let (id, octets, place) = row;
+    match decode_or_locate(alloc, Codec::Ber, schema, TypeId(*id), octets) {
+        Ok(_) => false,
+        Err(refusal) => is_at(alloc, &refusal, schema, TypeId(*id), place),
+    }
+}
+
+/// Returns whether octets are refused at this place when they are only checked.
+fn is_unchecked_at(alloc: Global, schema: &Schema, row: &Row) -> bool {
+    let (id, octets, place) = row;
+    match check_or_locate(alloc, Codec::Ber, schema, TypeId(*id), octets) {
+        Ok(_) => false,
+        Err(refusal) => is_at(alloc, &refusal, schema, TypeId(*id), place),
+    }
+}
+
+/// Asserts that the octets of each row are refused at its place, whether a value is made or not.
+fn assert_refused(rt: &impl Abort, alloc: Global, rows: &[Row]) {
+    let schema = made(rt, alloc, TYPES);
+    for row in rows {
+        assert!(rt; is_unread_at(alloc, &schema, row));
+        assert!(rt; is_unchecked_at(alloc, &schema, row));
+    }
 }
 
 /// A type, octets, and where they are refused.
@@ -123,10 +142,7 @@ fn innermost_value_is_named(rt: HostRuntime) {
             (0, 8, &[], "byte 0: BER: "),
         ),
     ];
-    for (id, octets, place) in ROWS {
-        let refused = is_refused_at(rt.alloc(), TypeId(*id), octets, place);
-        assert!(rt; refused == Some(true));
-    }
+    assert_refused(&rt, rt.alloc(), ROWS);
 }
 
 // X.690 8.13: of CHOICEs in one another each is a step, whichever of their alternatives is refused.
@@ -176,8 +192,5 @@ fn choices_in_one_another_are_steps(rt: HostRuntime) {
             ),
         ),
     ];
-    for (id, octets, place) in ROWS {
-        let refused = is_refused_at(rt.alloc(), TypeId(*id), octets, place);
-        assert!(rt; refused == Some(true));
-    }
+    assert_refused(&rt, rt.alloc(), ROWS);
 }

@@ -20,6 +20,8 @@ mod nested_choices;
 #[cfg(test)]
 mod parts;
 #[cfg(test)]
+mod reached;
+#[cfg(test)]
 mod sizes;
 #[cfg(test)]
 mod small_schemas;

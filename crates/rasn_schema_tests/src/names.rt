@@ -1,6 +1,6 @@
 //! Parts and types that are found by name.
 
-use crate::types::{A_PAIR, PAIR, TYPES, schema, value};
+use crate::types::{A_PAIR, PAIR, TYPES, made, schema_of, value};
 use rasn_schema::constants::types_of;
 use rasn_schema::{Schema, Type, TypeId, TypeName, View, index_named, name_of_number};
 use std::alloc::Global;
@@ -27,16 +27,16 @@ fn is_chosen(alloc: Global, either: &View<'_, '_>) -> bool {
     is_shown(alloc, either.get("flag"), "TRUE") && either.get("none").is_none()
 }
 
-fn are_found(alloc: Global) -> Option<bool> {
-    let schema = schema(alloc)?;
-    let value = value(alloc, &schema, PAIR, A_PAIR)?;
+fn are_found(alloc: Global, schema: &Schema) -> Option<bool> {
+    let value = value(alloc, schema, PAIR, A_PAIR)?;
     let pair = schema.view(PAIR, &value);
     Some(are_parts(alloc, &pair) && is_chosen(alloc, &pair.get("either")?))
 }
 
 #[test]
 fn parts_are_found_by_name(rt: HostRuntime) {
-    assert!(rt; are_found(rt.alloc()) == Some(true));
+    let schema = made(&rt, rt.alloc(), TYPES);
+    assert!(rt; are_found(rt.alloc(), &schema) == Some(true));
 }
 
 fn type_name(alloc: Global, name: &str, type_id: TypeId) -> Option<TypeName> {
@@ -52,7 +52,7 @@ fn named(alloc: Global) -> Option<Schema> {
     for (name, id) in [("Kind", TypeId(0)), ("Pair", PAIR), ("Pair", TypeId(0))] {
         names.push(type_name(alloc, name, id)?).ok()?;
     }
-    Some(schema(alloc)?.with_names(names))
+    Some(schema_of(alloc, TYPES)?.with_names(names))
 }
 
 fn are_types_found(alloc: Global) -> Option<bool> {

@@ -1,8 +1,8 @@
 //! CHOICEs directly in one another.
 
+use crate::types::{made, schema_of};
 use rasn_dynamic::{Step, WriteError, decode, encode, fits, path_named};
 use rasn_schema::constants::prelude::*;
-use rasn_schema::constants::types_of;
 use rasn_schema::{Schema, TypeId, Value};
 use rasn_types::types::Codec;
 use std::alloc::Global;
@@ -22,18 +22,32 @@ const TYPES: &[StaticType] = &[
 
 const FIRST: TypeId = TypeId(7);
 
-fn schema(alloc: Global) -> Option<Schema> {
-    Schema::new(types_of(alloc, TYPES).ok()?).ok()
+/// Returns whether a value is written as these octets.
+fn is_written(alloc: Global, schema: &Schema, value: &Value<'_>, octets: &[u8]) -> bool {
+    match encode(alloc, Codec::Der, schema, FIRST, value) {
+        Ok(written) => written.as_slice() == octets,
+        Err(_) => false,
+    }
+}
+
+/// Returns whether a copy of a value is equal to it and of the type, and is written as these
+/// octets.
+fn is_copied(alloc: Global, schema: &Schema, value: &Value<'_>, octets: &[u8]) -> bool {
+    match value.try_clone(alloc) {
+        Ok(copy) => {
+            copy == *value && fits(schema, FIRST, &copy) && is_written(alloc, schema, &copy, octets)
+        }
+        Err(_) => false,
+    }
 }
 
 /// Returns whether the value of these octets is written as them, and so is a copy of it, which is
 /// equal to it.
-fn is_kept(alloc: Global, octets: &[u8]) -> Option<bool> {
-    let schema = schema(alloc)?;
-    let value = decode(alloc, Codec::Der, &schema, FIRST, octets).ok()?;
-    let copy = value.try_clone(alloc).ok()?;
-    let written = encode(alloc, Codec::Der, &schema, FIRST, &copy).ok()?;
-    Some(copy == value && fits(&schema, FIRST, &copy) && written.as_slice() == octets)
+fn is_kept(alloc: Global, schema: &Schema, octets: &[u8]) -> bool {
+    match decode(alloc, Codec::Der, schema, FIRST, octets) {
+        Ok(value) => is_copied(alloc, schema, &value, octets),
+        Err(_) => false,
+    }
 }
 
 // X.690 8.13: a CHOICE has no octets of its own. They are put together by hand.
@@ -49,29 +63,27 @@ const VALUES: &[&[u8]] = &[
 
 #[test]
 fn alternatives_of_alternatives_are_kept(rt: HostRuntime) {
+    let schema = made(&rt, rt.alloc(), TYPES);
     for octets in VALUES {
-        assert!(rt; is_kept(rt.alloc(), octets) == Some(true));
+        assert!(rt; is_kept(rt.alloc(), &schema, octets));
     }
 }
 
-/// Returns how many of the values are equal to the one of these octets.
-fn count_of_equal(alloc: Global, octets: &[u8]) -> Option<usize> {
-    let schema = schema(alloc)?;
-    let value = decode(alloc, Codec::Der, &schema, FIRST, octets).ok()?;
-    let mut count = 0usize;
-    for others in VALUES {
-        let other = decode(alloc, Codec::Der, &schema, FIRST, others).ok()?;
-        if value == other {
-            count = count.saturating_add(1);
-        }
-    }
-    Some(count)
+/// Returns whether the values of these octets are equal.
+fn are_equal(alloc: Global, schema: &Schema, octets: &[u8], others: &[u8]) -> Option<bool> {
+    let value = decode(alloc, Codec::Der, schema, FIRST, octets).ok()?;
+    let other = decode(alloc, Codec::Der, schema, FIRST, others).ok()?;
+    Some(value == other)
 }
 
 #[test]
 fn other_alternatives_are_not_equal(rt: HostRuntime) {
+    let schema = made(&rt, rt.alloc(), TYPES);
     for octets in VALUES {
-        assert!(rt; count_of_equal(rt.alloc(), octets) == Some(1));
+        for others in VALUES {
+            let is_same = are_equal(rt.alloc(), &schema, octets, others);
+            assert!(rt; is_same == Some(octets == others));
+        }
     }
 }
 
@@ -86,7 +98,7 @@ fn in_choices<'any>(alloc: Global, depth: usize) -> Option<Value<'any>> {
 
 /// Returns the path to the part that isn't of its type.
 fn unfit_path(alloc: Global, depth: usize) -> Option<Vec<usize>> {
-    let schema = schema(alloc)?;
+    let schema = schema_of(alloc, TYPES)?;
     let value = in_choices(alloc, depth)?;
     match encode(alloc, Codec::Der, &schema, FIRST, &value) {
         Err(WriteError::Unfit { path }) => Some(path.indices),
@@ -113,7 +125,7 @@ fn path_by_names(alloc: Global) -> Option<Vec<usize>> {
         Step::Name("second"),
         Step::Name("none"),
     ];
-    path_named(alloc, &schema(alloc)?, FIRST, NAMES).ok()?
+    path_named(alloc, &schema_of(alloc, TYPES)?, FIRST, NAMES).ok()?
 }
 
 // The explicit tag is a step without a name.
@@ -127,7 +139,7 @@ fn alternatives_are_found_by_names(rt: HostRuntime) {
 
 /// Returns whether a value in so many CHOICEs is equal to its copy, and none of its type.
 fn is_deep(alloc: Global, depth: usize) -> Option<bool> {
-    let schema = schema(alloc)?;
+    let schema = schema_of(alloc, TYPES)?;
     let value = in_choices(alloc, depth)?;
     let copy = value.try_clone(alloc).ok()?;
     Some(copy == value && !fits(&schema, FIRST, &copy))

@@ -1,10 +1,9 @@
 //! When the number of elements is checked.
 
+use crate::types::made;
 use rasn_dynamic::decode;
 use rasn_schema::constants::prelude::*;
-use rasn_schema::constants::types_of;
 use rasn_schema::{Schema, TypeId};
-use rasn_types::error::{DecodeError, DecodeErrorKind};
 use rasn_types::types::Codec;
 use std::alloc::Global;
 
@@ -14,36 +13,19 @@ const TYPES: &[StaticType] = &[
     SetOf(Tag::SET, 0, size!(1..)),
 ];
 
-/// Returns what the reader refuses; none if it reads a value, or memory runs out.
-fn refused(alloc: Global, id: usize, octets: &[u8]) -> Option<DecodeError> {
-    let Ok(schema) = Schema::new(types_of(alloc, TYPES).ok()?) else {
-        return None;
-    };
-    decode(alloc, Codec::Ber, &schema, TypeId(id), octets).err()
-}
-
-fn is_without_elements(alloc: Global, id: usize, octets: &[u8]) -> bool {
-    match refused(alloc, id, octets) {
-        Some(error) => {
-            error.kind
-                == DecodeErrorKind::SizeConstraintNotSatisfied {
-                    size: Some(0),
-                    expected: Bounded::Range {
-                        start: Some(1),
-                        end: None,
-                    },
-                }
+/// Returns whether octets are refused with an error whose kind begins with this text.
+fn is_refused(alloc: Global, schema: &Schema, id: usize, octets: &[u8], kind: &str) -> bool {
+    match decode(alloc, Codec::Ber, schema, TypeId(id), octets) {
+        Ok(_) => false,
+        Err(error) => {
+            let text = format!(in alloc; "{:?}", error.kind);
+            text.is_ok_and(|text| text.as_str().starts_with(kind))
         }
-        None => false,
     }
 }
 
-fn is_cut_off(alloc: Global, id: usize, octets: &[u8]) -> bool {
-    match refused(alloc, id, octets) {
-        Some(error) => matches!(error.kind, DecodeErrorKind::Incomplete { .. }),
-        None => false,
-    }
-}
+const NO_ELEMENTS: &str =
+    "SizeConstraintNotSatisfied { size: Some(0), expected: Range { start: Some(1), end: None } }";
 
 // X.690 8.1.5, 8.10.1 and 8.12.1: the value ends with its end-of-contents octets, and is whole only
 // then.
@@ -53,10 +35,9 @@ fn size_is_checked_after_the_end(rt: HostRuntime) {
         (1, &[0x30, 0x80], &[0x30, 0x80, 0, 0]),
         (2, &[0x31, 0x80], &[0x31, 0x80, 0, 0]),
     ];
+    let schema = made(&rt, rt.alloc(), TYPES);
     for (id, cut, whole) in ROWS {
-        let cut_off = is_cut_off(rt.alloc(), *id, cut);
-        assert!(rt; cut_off);
-        let without = is_without_elements(rt.alloc(), *id, whole);
-        assert!(rt; without);
+        assert!(rt; is_refused(rt.alloc(), &schema, *id, cut, "Incomplete"));
+        assert!(rt; is_refused(rt.alloc(), &schema, *id, whole, NO_ELEMENTS));
     }
 }

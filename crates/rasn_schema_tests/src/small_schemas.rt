@@ -1,8 +1,8 @@
 //! Small schemas, whose octets are put together by hand (X.690 8).
 
+use crate::types::schema_of;
+use rasn_schema::TypeId;
 use rasn_schema::constants::prelude::*;
-use rasn_schema::constants::types_of;
-use rasn_schema::{Schema, TypeId};
 use rasn_schema_bench::{CERTIFICATE, CERTIFICATE_TYPES, FILTER, FILTER_TYPES};
 use rasn_schema_octets::{Compiled, read, write};
 use std::alloc::Global;
@@ -35,7 +35,7 @@ const ROWS: &[Row] = &[
 
 /// Returns the octets of a schema of these types.
 fn octets_of(alloc: Global, table: &[StaticType], root: TypeId) -> Option<Vec<u8>> {
-    let schema = Schema::new(types_of(alloc, table).ok()?).ok()?;
+    let schema = schema_of(alloc, table)?;
     write(alloc, &schema, root, 0).ok()
 }
 

@@ -6,6 +6,7 @@ use rasn_schema::constants::types_of;
 use rasn_schema::{Schema, TypeId, Value};
 use rasn_types::types::Codec;
 use std::alloc::Global;
+use std::process::Abort;
 
 /// `Pair ::= SEQUENCE { kind INTEGER { other(7) }, either CHOICE { flag BOOLEAN, none NULL } }`, a
 /// SET OF and a SEQUENCE OF integers, and what they are made of.
@@ -36,9 +37,17 @@ pub const LIST: TypeId = TypeId(6);
 /// `{ kind other, either flag : TRUE }`
 pub const A_PAIR: &[u8] = &[0x30, 6, 2, 1, 7, 1, 1, 0xFF];
 
-/// Returns the schema of the types.
-pub fn schema(alloc: Global) -> Option<Schema> {
-    Schema::new(types_of(alloc, TYPES).ok()?).ok()
+/// Returns the schema of these types; none if it isn't one, or memory runs out.
+pub fn schema_of(alloc: Global, types: &[StaticType]) -> Option<Schema> {
+    Schema::new(types_of(alloc, types).ok()?).ok()
+}
+
+/// Returns the schema of these types. Panics if there is none.
+pub fn made(rt: &impl Abort, alloc: Global, types: &[StaticType]) -> Schema {
+    match schema_of(alloc, types) {
+        Some(schema) => schema,
+        None => panic!(rt; "no schema"),
+    }
 }
 
 /// Returns the value that all of the octets are.

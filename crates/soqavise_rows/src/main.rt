@@ -5,8 +5,7 @@
 use clap::ArgMatches;
 use rasn_compiler::{Modules, Source};
 use rasn_print::{
-    Catalog, ColorChoice, Context, Fault, Known, Session, Work, call_of, command, known_of,
-    message_types, modules_of,
+    Call, CallFault, Catalog, ColorChoice, Session, Work, call_of, command, modules_of,
 };
 use std::alloc::{AllocError, Global};
 use std::io::{BufRead, BufReader, BufWriter, Write};
@@ -21,49 +20,41 @@ fn main(rt: HostRuntime) -> ExitCode {
 }
 
 /// A module that isn't built in, as if all calls had `--module points.asn1`: its type Point is used
-/// by Shape, and Shape by itself alone.
+/// by Shape, and Shape by itself alone. Its values are identifiers, except `count` and the last.
 const POINTS: Source<'static> = Source {
     name: "points.asn1",
     text: "Points DEFINITIONS AUTOMATIC TAGS ::= BEGIN \
         Shape ::= [PRIVATE 1] SEQUENCE { points SEQUENCE OF Point, next Shape OPTIONAL } \
         Point ::= [PRIVATE 2] SEQUENCE { x INTEGER, y INTEGER } \
+        points OBJECT IDENTIFIER ::= { iso 3 dod(6) internet(1) 4 1 99999 } \
+        Kind ::= OBJECT IDENTIFIER \
+        point-colour Kind ::= { points 1 } \
+        label OBJECT IDENTIFIER ::= { joint-iso-itu-t ds(5) 4 41 } \
+        label-again OBJECT IDENTIFIER ::= label \
+        count INTEGER ::= 3 \
+        wrong OBJECT IDENTIFIER ::= { 1 99 } \
         END",
 };
 
-/// The types that calls may ask for.
-#[derive(Clone, Copy)]
-struct Types<'a, 'text> {
-    read: &'a Modules<'text>,
-    known: &'a Known,
-    catalog: &'a Catalog<'text>,
-}
-
 /// Prints each row, and what its call prints.
-fn run_rows(rt: &HostRuntime) -> Result<(), Fault> {
+fn run_rows(rt: &HostRuntime) -> Result<(), CallFault> {
     let alloc = rt.alloc();
     let (read, _) = modules_of(alloc, &[POINTS])?;
-    let types = read.types(alloc)?;
-    let (known, catalog) = known_of(alloc, &read, types.as_slice())?;
-    let types = Types {
-        read: &read,
-        known: &known,
-        catalog: &catalog,
-    };
-    let input = BufReader::new(alloc, rt.stdin()).map_err(Fault::of_write)?;
-    let mut output = BufWriter::new(alloc, rt.stdout()).map_err(Fault::of_write)?;
+    let input = BufReader::new(alloc, rt.stdin()).map_err(CallFault::of_write)?;
+    let mut output = BufWriter::new(alloc, rt.stdout()).map_err(CallFault::of_write)?;
     for line in input.lines(alloc) {
-        let line = line.map_err(Fault::of_write)?;
-        writeln!(output, "{line}").map_err(Fault::of_write)?;
+        let line = line.map_err(CallFault::of_write)?;
+        writeln!(output, "{line}").map_err(CallFault::of_write)?;
         if !line.is_empty() && !line.starts_with('#') {
-            let answer = answer_of(alloc, types, &line)?;
-            writeln!(output, "{answer}").map_err(Fault::of_write)?;
+            let answer = answer_of(alloc, &read, &line)?;
+            writeln!(output, "{answer}").map_err(CallFault::of_write)?;
         }
     }
-    output.flush().map_err(Fault::of_write)
+    output.flush().map_err(CallFault::of_write)
 }
 
 /// Returns what the call of a line prints, and `status 1` if that is its exit status.
-fn answer_of(alloc: Global, types: Types<'_, '_>, line: &str) -> Result<String, Fault> {
+fn answer_of(alloc: Global, read: &Modules<'_>, line: &str) -> Result<String, CallFault> {
     let (call, input) = match line.split_once('"') {
         Some((call, text)) => (call.trim_ascii_end(), unquoted(alloc, text)?),
         None => match line.rsplit_once(' ') {
@@ -76,18 +67,18 @@ fn answer_of(alloc: Global, types: Types<'_, '_>, line: &str) -> Result<String, 
     for word in call.split(' ') {
         words.push(word)?;
     }
-    answer_to_words(alloc, types, words.as_slice(), input.as_bytes())
+    answer_to_words(alloc, read, words.as_slice(), input.as_bytes())
 }
 
 /// Returns what the call of these words prints for an input.
 fn answer_to_words(
     alloc: Global,
-    types: Types<'_, '_>,
+    read: &Modules<'_>,
     words: &[&str],
     input: &[u8],
-) -> Result<String, Fault> {
+) -> Result<String, CallFault> {
     match command(alloc)?.try_get_matches_from(words) {
-        Ok(matches) => answer_to_matches(alloc, types, matches, input),
+        Ok(matches) => answer_to_matches(alloc, read, &matches, input),
         Err(error) => Ok(format!(in alloc; "{error}")?),
     }
 }
@@ -95,22 +86,26 @@ fn answer_to_words(
 /// Returns what the call that a command line asks for prints for an input.
 fn answer_to_matches(
     alloc: Global,
-    types: Types<'_, '_>,
-    matches: ArgMatches<'_>,
+    read: &Modules<'_>,
+    matches: &ArgMatches<'_>,
     input: &[u8],
-) -> Result<String, Fault> {
-    let Some(call) = call_of(alloc, &matches)? else {
-        return Ok(String::from_str(alloc, "is no call")?);
-    };
-    let wanted = message_types(alloc, types.read, types.known, types.catalog, &call)?;
-    let context = Context {
-        alloc,
-        call: &call,
-        known: types.known,
-        types: wanted.as_slice(),
-        is_colored: call.color == ColorChoice::Always,
-    };
-    run(context, input)
+) -> Result<String, CallFault> {
+    match call_of(alloc, matches)? {
+        Some(call) => answer_to_call(alloc, read, &call, input),
+        None => Ok(String::from_str(alloc, "is no call")?),
+    }
+}
+
+/// Returns what a call prints for an input.
+fn answer_to_call(
+    alloc: Global,
+    read: &Modules<'_>,
+    call: &Call,
+    input: &[u8],
+) -> Result<String, CallFault> {
+    let mut catalog = Catalog::new(alloc, Some(read));
+    catalog.resolve_named(alloc, call)?;
+    run(alloc, call, catalog, input)
 }
 
 /// Returns a text in which `\n` is a line feed, `\e` an escape character and `\m` a byte order mark,
@@ -126,25 +121,23 @@ fn unquoted(alloc: Global, text: &str) -> Result<String, AllocError> {
     Ok(plain)
 }
 
-/// Returns what a call prints for an input.
-fn run(context: Context<'_>, input: &[u8]) -> Result<String, Fault> {
-    let alloc = context.alloc;
+/// Returns what a call prints for an input, by a catalog of its types.
+fn run(
+    alloc: Global,
+    call: &Call,
+    catalog: Catalog<'_, '_>,
+    input: &[u8],
+) -> Result<String, CallFault> {
     let mut session = Session {
-        context,
+        alloc,
+        call,
+        catalog,
+        is_colored: call.color == ColorChoice::Always,
         output: Vec::new(alloc),
         refusals: Vec::new(alloc),
         is_refused: false,
     };
-    if context.call.work == Work::Example {
-        session.example()?;
-    } else if context.call.has_lines {
-        session.lines(
-            "input",
-            BufReader::new(alloc, input).map_err(Fault::of_write)?,
-        )?;
-    } else {
-        session.input("input", input)?;
-    }
+    run_input(&mut session, input)?;
     let Session {
         output,
         refusals,
@@ -155,4 +148,22 @@ fn run(context: Context<'_>, input: &[u8]) -> Result<String, Fault> {
     let refused = str::from_utf8(&refusals).unwrap_or("other octets");
     let status = if is_refused { "status 1\n" } else { "" };
     Ok(format!(in alloc; "{shown}{refused}{status}")?)
+}
+
+/// Works on an input.
+fn run_input(
+    session: &mut Session<'_, '_, '_, Vec<u8>, Vec<u8>>,
+    input: &[u8],
+) -> Result<(), CallFault> {
+    session.begin()?;
+    if session.call.work == Work::Example {
+        return session.example();
+    }
+    if !session.call.has_lines {
+        return session.input("input", input);
+    }
+    match BufReader::new(session.alloc, input) {
+        Ok(reader) => session.lines("input", reader),
+        Err(error) => Err(CallFault::of_write(error)),
+    }
 }

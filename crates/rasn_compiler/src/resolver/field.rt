@@ -54,23 +54,18 @@ impl<'modules, 'text> Resolver<'modules, 'text> {
         for _ in 0..MAX_NAMES {
             let ty = modules.type_at(at.module, index)?;
             self.step(steps_of(ty), place, position)?;
-            match &ty.base {
-                Base::Class(fields) => return Ok((at, fields.as_slice())),
-                Base::Reference {
-                    module,
-                    name,
-                    actuals,
-                } => {
-                    (at, index) = self.class_meant(
-                        at,
-                        *module,
-                        name,
-                        actuals.as_slice(),
-                        position,
-                    )?;
-                }
-                _ => return Err(self.expected(place, position, "a class")),
+            if let Base::Class(fields) = &ty.base {
+                return Ok((at, fields.as_slice()));
             }
+            let Base::Reference {
+                module,
+                name,
+                actuals,
+            } = &ty.base
+            else {
+                return Err(self.expected(place, position, "a class"));
+            };
+            (at, index) = self.class_meant(at, *module, name, actuals.as_slice(), position)?;
             if mark.is_again(at, index) {
                 return Err(self.endless(place, position, written_name(&ty.base)));
             }
@@ -151,23 +146,18 @@ impl<'modules, 'text> Resolver<'modules, 'text> {
         for _ in 0..MAX_NAMES {
             let ty = modules.type_at(next.place.module, next.index)?;
             self.step(steps_of(ty), place, position)?;
-            match &ty.base {
-                Base::Choice(list) => return Ok((next.place, list.as_slice())),
-                Base::Reference {
-                    module,
-                    name,
-                    actuals,
-                } => {
-                    next = self.type_meant(
-                        next.place,
-                        *module,
-                        name,
-                        actuals.as_slice(),
-                        position,
-                    )?;
-                }
-                _ => return Err(self.expected(place, position, "a CHOICE")),
+            if let Base::Choice(list) = &ty.base {
+                return Ok((next.place, list.as_slice()));
             }
+            let Base::Reference {
+                module,
+                name,
+                actuals,
+            } = &ty.base
+            else {
+                return Err(self.expected(place, position, "a CHOICE"));
+            };
+            next = self.type_meant(next.place, *module, name, actuals.as_slice(), position)?;
             if mark.is_again(next.place, next.index) {
                 return Err(self.endless(place, position, written_name(&ty.base)));
             }

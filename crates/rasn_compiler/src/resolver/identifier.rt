@@ -46,6 +46,9 @@ impl<'modules, 'text> Resolver<'modules, 'text> {
         arcs: Vec<u32>,
         spelled: &Spelled<'text>,
     ) -> Result<Value<'static>, Halt<'text>> {
+        if !may_begin(arcs.as_slice()) {
+            return Err(self.misfit(spelled));
+        }
         match ObjectIdentifier::new(arcs) {
             Some(identifier) => Ok(Value::Arcs(identifier)),
             None => Err(self.misfit(spelled)),
@@ -145,12 +148,21 @@ impl<'tokens, 'text> Parser<'tokens, 'text> {
     }
 }
 
+/// Returns whether the first two numbers may be together: after 0 and 1 is one below 40 (X.660 A,
+/// X.690 8.19.4).
+fn may_begin(arcs: &[u32]) -> bool {
+    match arcs {
+        [0 | 1, second, ..] => *second < 40,
+        _ => true,
+    }
+}
+
 /// Returns whether a component is the name of a value, of another module if that is named.
 fn is_value_name(arc: &Arc<'_>) -> bool {
-    match arc.spelled.value {
-        Written::Name { module, .. } => module.is_some() || arc.name.is_some(),
-        _ => false,
-    }
+    let Written::Name { module, .. } = arc.spelled.value else {
+        return false;
+    };
+    module.is_some() || arc.name.is_some()
 }
 
 /// Names that need no number: the number before them, if there is one, and their own (X.660 A).
@@ -177,6 +189,7 @@ fn known_number(has_prefix: bool, before: &[u32], name: Option<&str>) -> Option<
     let parent = match before {
         [] if !has_prefix => None,
         [parent] if !has_prefix => Some(*parent),
+        [0, 0] if !has_prefix => return series_number(name),
         _ => return None,
     };
     for (under, known, number) in &KNOWN_ARCS {
@@ -185,4 +198,16 @@ fn known_number(has_prefix: bool, before: &[u32], name: Option<&str>) -> Option<
         }
     }
     None
+}
+
+/// Returns the number of a series of recommendations, whose name is a letter (X.660 A).
+fn series_number(name: &str) -> Option<u32> {
+    let [letter] = name.as_bytes() else {
+        return None;
+    };
+    let letter = *letter;
+    match letter {
+        b'a'..=b'z' => Some(u32::from(letter - b'a') + 1),
+        _ => None,
+    }
 }

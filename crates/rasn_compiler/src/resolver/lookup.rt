@@ -152,15 +152,22 @@ impl<'text> Modules<'text> {
         ensures { IsTrue result → HasModule self.now.modules.items «module».now }
     {
         match self.type_named(module, name) {
-            Ok((index, known, position)) => self.is_class_at(index, known, position),
+            Ok((index, known, position)) => self.is_class_at(index, None, known, position),
             Err(_) => false,
         }
     }
 
-    /// Returns whether the name of the module with this index is that of a class.
-    pub(crate) fn is_class_at(&self, index: usize, name: &'text str, position: Position) -> bool {
+    /// Returns whether a name, as it is used in the module with this index, is that of a class.
+    /// `outside` is the module that is written before it.
+    pub(crate) fn is_class_at(
+        &self,
+        index: usize,
+        outside: Option<&'text str>,
+        name: &'text str,
+        position: Position,
+    ) -> bool {
         let mut at = index;
-        let mut outside = None;
+        let mut outside = outside;
         let mut name = name;
         for _ in 0..MAX_NAMES {
             let Ok((found, assignment)) = self.meaning(at, outside, name, position) else {
@@ -187,10 +194,11 @@ impl<'text> Modules<'text> {
         let Assigned::Type(of) = assigned else {
             return None;
         };
-        match &self.module_at(module)?.types.get(of.0)?.base {
-            Base::Reference { module, name, .. } => Some((*module, *name)),
-            _ => None,
-        }
+        let Base::Reference { module, name, .. } = &self.module_at(module)?.types.get(of.0)?.base
+        else {
+            return None;
+        };
+        Some((*module, *name))
     }
 }
 
@@ -205,8 +213,8 @@ fn known_name<'text>(module: &Module<'text>, name: &str) -> Option<&'text str> {
 /// Returns the symbol of this name, as it is in the text.
 fn symbol_named<'text>(import: &Import<'text>, name: &str) -> Option<&'text str> {
     for symbol in &import.symbols {
-        if *symbol == name {
-            return Some(*symbol);
+        if symbol.name == name {
+            return Some(symbol.name);
         }
     }
     None

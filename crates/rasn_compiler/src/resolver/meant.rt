@@ -67,7 +67,9 @@ impl<'modules, 'text> Resolver<'modules, 'text> {
                 of: Some(of),
                 value,
             }),
-            _ => Err(self.expected(place, position, expected)),
+            Meant::Given(_, _) | Meant::Assigned(_, _) => {
+                Err(self.expected(place, position, expected))
+            }
         }
     }
 }

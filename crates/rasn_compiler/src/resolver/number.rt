@@ -31,7 +31,12 @@ impl<'modules, 'text> Resolver<'modules, 'text> {
                 Value::Name { module, name } => {
                     (at, value) = self.number_meant(at, module, name, position)?;
                 }
-                _ => return Err(self.expected(place, position, "a number")),
+                Value::Boolean(_)
+                | Value::Null
+                | Value::Special(_)
+                | Value::Text(_)
+                | Value::Digits(_)
+                | Value::Unread(_) => return Err(self.expected(place, position, "a number")),
             }
         }
         Err(self.beyond(place, position, TOO_MANY_NAMES))
@@ -77,6 +82,9 @@ impl<'modules, 'text> Resolver<'modules, 'text> {
         position: Position,
     ) -> Result<(Place, Value<'text>), Halt<'text>> {
         let (home, base) = self.base_of(place, index, position)?;
+        if !matches!(base, Base::Integer(_) | Base::Enumerated(_)) {
+            return Err(self.expected(place, position, "a number"));
+        }
         self.step(names_of(base).len(), place, position)?;
         match number_named(names_of(base), value) {
             Some(number) => Ok((home, number)),

@@ -22,12 +22,11 @@ impl<'modules, 'text> Resolver<'modules, 'text> {
         let Some(within) = self.null_within(spelled)? else {
             return Err(self.unsupported_default(spelled));
         };
-        match self.meant(&within)?.value {
-            Written::Null => Ok(Value::Octets(CowSlice::Owned(Vec::from_slice(
-                self.alloc, &NULL,
-            )?))),
-            _ => Err(self.misfit(spelled)),
-        }
+        let Written::Null = self.meant(&within)?.value else {
+            return Err(self.misfit(spelled));
+        };
+        let octets = Vec::from_slice(self.alloc, &NULL)?;
+        Ok(Value::Octets(CowSlice::Owned(octets)))
     }
 
     /// Returns what is after the type and the colon, if the type is NULL.

@@ -53,7 +53,17 @@ impl<'modules, 'text> Resolver<'modules, 'text> {
             Base::ClassField { class, path } => {
                 self.field_type(place, *class, path.as_slice(), ty.position)
             }
-            _ => Ok(None),
+            Base::Builtin(_)
+            | Base::Integer(_)
+            | Base::BitString(_)
+            | Base::Enumerated(_)
+            | Base::Sequence(_)
+            | Base::Set(_)
+            | Base::Choice(_)
+            | Base::SequenceOf(_)
+            | Base::SetOf(_)
+            | Base::AnyDefinedBy(_)
+            | Base::Class(_) => Ok(None),
         }
     }
 
@@ -141,7 +151,17 @@ pub(crate) fn written_name<'text>(base: &Base<'text>) -> &'text str {
             Some(field) => field,
             None => "",
         },
-        _ => "",
+        Base::Builtin(_)
+        | Base::Integer(_)
+        | Base::BitString(_)
+        | Base::Enumerated(_)
+        | Base::Sequence(_)
+        | Base::Set(_)
+        | Base::Choice(_)
+        | Base::SequenceOf(_)
+        | Base::SetOf(_)
+        | Base::AnyDefinedBy(_)
+        | Base::Class(_) => "",
     }
 }
 

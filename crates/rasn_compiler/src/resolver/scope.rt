@@ -86,14 +86,15 @@ impl<'modules, 'text> Resolver<'modules, 'text> {
 
     /// Returns what the name of a type is given, if it is that of a parameter.
     pub(crate) fn bound_type(&self, place: Place, base: &Base<'text>) -> Option<Bound<'text>> {
-        match base {
-            Base::Reference {
-                module: None,
-                name,
-                ..
-            } => self.bound(place, name),
-            _ => None,
-        }
+        let Base::Reference {
+            module: None,
+            name,
+            ..
+        } = base
+        else {
+            return None;
+        };
+        self.bound(place, name)
     }
 
     /// Returns the place of an assignment in a module, which is used at another place and is given
@@ -218,7 +219,7 @@ impl<'modules, 'text> Resolver<'modules, 'text> {
                 }
             }
             Given::Value(Value::Name { module: None, name }) => Ok(self.bound(from, name)),
-            _ => Ok(None),
+            Given::Value(_) | Given::Members(_) => Ok(None),
         }
     }
 
@@ -270,7 +271,7 @@ impl<'text> Bound<'text> {
                 position: Position::START,
                 ..self
             },
-            _ => self,
+            Given::Type(_) | Given::Value(_) => self,
         }
     }
 }

@@ -231,13 +231,11 @@ impl<'modules, 'text> Resolver<'modules, 'text> {
         &mut self,
         spelled: &Spelled<'text>,
     ) -> Result<Unread<'text>, Halt<'text>> {
-        match spelled.value {
-            Written::Unread(unread) => {
-                self.step(unread.text.len(), spelled.place, spelled.position)?;
-                Ok(unread)
-            }
-            _ => Err(self.misfit(spelled)),
-        }
+        let Written::Unread(unread) = spelled.value else {
+            return Err(self.misfit(spelled));
+        };
+        self.step(unread.text.len(), spelled.place, spelled.position)?;
+        Ok(unread)
     }
 
     /// Returns a parser of a part of a module's text, of which these are the items.

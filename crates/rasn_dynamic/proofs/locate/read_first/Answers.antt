@@ -1,4 +1,4 @@
-use Rattle.std.proofs.Common.{◌≡◌, ◌≤◌, length, Ok, Err, subst, sym, ap, ◌∙◌, refl, arith}
+use Rattle.std.proofs.Common.{◌≡◌, length, Ok, Err, subst, sym, ap, ◌∙◌, arith}
 use Rattle.rasn_types.specs.declared.error.decode.DecodeError.{DecodeError}
 use Rattle.rasn_de.specs.State.{State}
 use Rattle.rasn_schema.specs.Trees.{tree_of}
@@ -17,14 +17,14 @@ refusal_of-requires g c = λ f q.
     let e : c.new-decoder.result ≡ start c.args.rule c.args.input.now = c.new-decoder.ensures ∙ ap (λ z. start z c.args.input.now) c.of.ensures in
     let same : t.0 ≡ f = cc in
     let i = subst (λ z. IsFault c.types.result.now 18446744073709551615 c.args.id.0 c.new-decoder.result c.decode_at.new.walk.error z) same t.2 in
-    subst (λ (z : State). f.left ≤ length z.rest) e (fault_short c.types.result.now _ _ c.new-decoder.result _ f i)
+    rw c.octets_left-len.ensures (fault_short c.types.result.now _ _ c.new-decoder.result _ f i)
 
 pub returns-clause-located : goal.returns-clause-located
 returns-clause-located g c =
     let t = c.in-Err.ensures.told in
     let e : c.new-decoder.result ≡ start c.args.rule c.args.input.now = c.new-decoder.ensures ∙ ap (λ z. start z c.args.input.now) c.of.ensures in
     rw (← c.types.ensures.types)
-    (located c.types.result.now c.args.rule c.args.id.0 c.args.input.now c.decode_at.new.walk.error _ _ refl _
+    (located c.types.result.now c.args.rule c.args.id.0 c.args.input.now c.decode_at.new.walk.error _ _ (c.octets_left-len.ensures ∙ ap (λ (z : State). length z.rest) e) _
     (t.0, t.1, subst (λ z. IsFault c.types.result.now 18446744073709551615 c.args.id.0 z c.decode_at.new.walk.error t.0) e t.2) c.refusal_of.ensures)
 
 pub returns-clause-read : goal.returns-clause-read
@@ -56,10 +56,10 @@ pub returns-clause-short : goal.returns-clause-short
 returns-clause-short g c =
     let e : c.new-decoder.result ≡ start c.args.rule c.args.input.now = c.new-decoder.ensures ∙ ap (λ z. start z c.args.input.now) c.of.ensures in
     let n = ap (λ (z : State). length z.rest) e in
-    omega (arith, n, c.octets_left.ensures, c.octets_left.type_inv)
+    omega (arith, n, c.octets_left-len.ensures, c.octets_left-len.type_inv)
 
 pub returns-in-Ok-clause-short : goal.returns-in-Ok-clause-short
 returns-in-Ok-clause-short g c =
     let e : c.new-decoder.result ≡ start c.args.rule c.args.input.now = c.new-decoder.ensures ∙ ap (λ z. start z c.args.input.now) c.of.ensures in
     let n = ap (λ (z : State). length z.rest) e in
-    omega (arith, n, c.octets_left.ensures, c.octets_left.type_inv)
+    omega (arith, n, c.octets_left-len.ensures, c.octets_left-len.type_inv)

@@ -8,6 +8,7 @@ use Rattle.rasn_dynamic.proofs.span.grow.Goals as goal
 pub returns-in-Ok : goal.returns-in-Ok
 returns-in-Ok c = (
   refl,
+  refl,
   λ m q. (
     c.in-Some.list,
     c.in-Some.is,

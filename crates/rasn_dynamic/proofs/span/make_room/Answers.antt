@@ -8,5 +8,6 @@ use Rattle.rasn_dynamic.proofs.span.make_room.Goals as goal
 pub returns-else-len-capacity : goal.returns-else-len-capacity
 returns-else-len-capacity c = (
   refl,
+  refl,
   λ m q. (m, q, refl, subst (λ (v : Vec Span Global). vec_len v < vec_capacity v) (same_list c.in-Some.list m (sym c.in-Some.is ∙ q)) (omega (arith, c.len.ensures, c.capacity.ensures, c.if-len-capacity.false))),
 )

@@ -1,7 +1,10 @@
 use Rattle.std.proofs.Common.{ap, ◌∙◌, subst}
 use Rattle.rasn_lint.specs.Lint.{AreAll, rest_after}
-use Rattle.rasn_lint.proofs.Clean.{listed, nothing_left}
+use Rattle.rasn_lint.proofs.Clean.{listed, not_read_by_ber, nothing_left}
 use Rattle.rasn_lint.proofs.by_schema.lint.Goals as goal
+
+pub returns-in-Err-clause-fails : goal.returns-in-Err-clause-fails
+returns-in-Err-clause-fails c = not_read_by_ber c.args.schema.now.types.items c.args.id.0 c.args.octets.now c.in-Err.refusal c.in-Err.ensures.located c.in-Err.ensures.exact
 
 pub returns-in-Ok-in_order-clause-list : goal.returns-in-Ok-in_order-clause-list
 returns-in-Ok-in_order-clause-list c =

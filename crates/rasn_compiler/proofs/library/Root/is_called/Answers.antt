@@ -1,7 +1,6 @@
 use Rattle.std.proofs.Common.{rules, ◌≡◌}
 use Rattle.std.specs.Prelude.{codes}
 use Rattle.rasn_types.specs.Truth.{IsWhether}
-use Rattle.rasn_compiler.specs.Libraries.{IsCalled}
 use Rattle.rasn_compiler.proofs.Called.{is_dotted, not_after_dot, stripped}
 use Rattle.rasn_compiler.proofs.library.Root.is_called.Goals as goal
 

@@ -1,7 +1,0 @@
-use Rattle.std.proofs.Common.{take}
-use Rattle.std.specs.List.{AllByRecursion}
-use Rattle.rasn_c.specs.Paths.{IsNameOctet}
-use Rattle.rasn_c.proofs.paths.name_length.Given as goal
-
-abbrev pub invariant-loop-end : goal.invariant-loop-end
-invariant-loop-end l = AllByRecursion IsNameOctet (take l.end l.octets)
