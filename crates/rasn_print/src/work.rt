@@ -6,7 +6,7 @@ ghost use Rattle.rasn_print.specs.declared.command_line.Work.TheVariants.{Check}
 ghost use Rattle.rasn_print.specs.Verdicts.{IsVerdict, IsDerVerdict, IsRefusal, opens_of};
 
 use crate::command_line::{Call, Work};
-use crate::dump::{End, Entries, deeper_at, entry_of};
+use crate::dump::{End, Entries, deeper_at};
 use crate::exact::exact_numbers;
 use crate::example::example_of;
 use crate::fingerprint::fingerprint_line;
