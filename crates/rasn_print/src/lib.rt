@@ -10,6 +10,7 @@ mod exact;
 mod example;
 mod fault;
 mod fingerprint;
+mod guess;
 mod identifier_names;
 mod identifiers;
 mod input;

@@ -6,10 +6,11 @@ ghost use Rattle.rasn_print.specs.declared.command_line.Work.TheVariants.{Check}
 ghost use Rattle.rasn_print.specs.Verdicts.{IsVerdict, IsDerVerdict, IsRefusal, opens_of};
 
 use crate::command_line::{Call, Work};
-use crate::dump::{End, Entries, deeper_at, entry_of};
+use crate::dump::{End, Entries, deeper_at};
 use crate::exact::exact_numbers;
 use crate::example::example_of;
 use crate::fingerprint::fingerprint_line;
+use crate::guess::octets_read;
 use crate::known::{Candidates, Known};
 use crate::offsets::offsets_text;
 use crate::page::page_data;
@@ -159,7 +160,7 @@ fn type_of<'a>(context: &Context<'a>, of: &KnownType<'a>) -> MessageType<'a> {
 }
 
 /// Returns what is printed for a message of the first type that reads it, or else why it is refused
-/// as the one by which most of it is read, if that is more than its header.
+/// as the one by whose parts most of it is read.
 fn answer_by_trial(context: &Context<'_>, input: &Input<'_>) -> Answered {
     let alloc = context.alloc;
     if input.octets.is_empty() {
@@ -168,31 +169,40 @@ fn answer_by_trial(context: &Context<'_>, input: &Input<'_>) -> Answered {
             &"no octets; --help says in which forms messages are read",
         );
     }
-    let mut most = match entry_of(alloc, input.octets, 0, 0) {
-        Ok(entry) => entry.header_len,
-        Err(_) => input.octets.len(),
-    };
-    let mut closest = None;
     for of in &context.known.types {
         let wanted = type_of(context, of);
         match check(alloc, &as_tried(context, &wanted), input.octets) {
             Ok(()) => return answer_as(context, &wanted, input),
             Err(refusal) if refusal.error.is_out_of_memory() => return Err(AllocError),
-            Err(refusal) => {
-                if refusal.offset > most {
-                    most = refusal.offset;
-                    closest = Some(wanted);
-                }
-            }
+            Err(_) => {}
         }
     }
-    match closest {
+    match closest_to(context, input.octets)? {
         Some(wanted) => answer_as(context, &wanted, input),
         None => {
             let text = format!(in alloc; "none of the known messages; {ADVICE}")?;
             refused_for(alloc, &text)
         }
     }
+}
+
+/// Returns the first of the types by whose parts most is read of octets that none reads, if any is.
+fn closest_to<'a>(
+    context: &Context<'a>,
+    octets: &[u8],
+) -> Result<Option<MessageType<'a>>, AllocError> {
+    let (mut most, mut closest) = (0, None);
+    for of in &context.known.types {
+        let wanted = type_of(context, of);
+        let mut by_ber = wanted;
+        by_ber.rule = Codec::Ber;
+        let count = octets_read(context.alloc, &by_ber, octets)?;
+        if count > most {
+            most = count;
+            closest = Some(wanted);
+        }
+    }
+    Ok(closest)
 }
 
 /// Returns a type with the rules by which a message is tried: `lint` reads by BER.
