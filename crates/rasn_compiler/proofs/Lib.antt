@@ -2,3 +2,4 @@ pub mod TypeNames
 pub mod Libraries
 pub mod Texts
 pub mod Called
+pub mod NamedValues

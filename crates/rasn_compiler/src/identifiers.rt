@@ -1,4 +1,6 @@
 //! Values of OBJECT IDENTIFIER that have names.
+ghost use Rattle.std.specs.Prelude.{IfOk, IfSome, OnOk};
+ghost use Rattle.rasn_compiler.specs.Identifiers.{AreValuesOf, IsOneOf, IsValue};
 
 use crate::fault::Halt;
 use crate::modules::Modules;
@@ -30,7 +32,10 @@ impl<'text> Modules<'text> {
     /// let found = modules.identifiers(alloc)?;
     /// // `found[0].name` is id-a, and `found[0].identifier` is 1.2.840
     /// ```
-    pub fn identifiers(&self, alloc: Global) -> Result<Vec<NamedIdentifier<'text>>, AllocError> {
+    #[tactic(auto, using(crate::proofs::NamedValues::are_values_of_none))]
+    pub fn identifiers(&self, alloc: Global) -> Result<Vec<NamedIdentifier<'text>>, AllocError>
+        ensures { IfOk result (λ found. AreValuesOf self.now.modules.items found.items) }
+    {
         let mut resolver = Resolver {
             alloc,
             modules: self,
@@ -53,16 +58,19 @@ impl<'text> Modules<'text> {
 fn add_identifiers<'text>(
     resolver: &mut Resolver<'_, 'text>,
     index: usize,
-    module: &Module<'text>,
+    owner: &Module<'text>,
     found: &mut Vec<NamedIdentifier<'text>>,
-) -> Result<(), AllocError> {
-    for assignment in &module.assignments {
-        if let Some(identifier) = identifier_of(resolver, index, module, assignment)? {
-            found.push(NamedIdentifier {
-                name: assignment.name,
-                identifier,
-            })?;
-        }
+) -> Result<(), AllocError>
+    ensures { (all : _) → IsOneOf all owner.now → AreValuesOf all found.old.items → OnOk result (AreValuesOf all found.new.items) }
+{
+    for assignment in &owner.assignments {
+        let Some(identifier) = identifier_of(resolver, index, owner, assignment)? else {
+            continue;
+        };
+        found.push(NamedIdentifier {
+            name: assignment.name,
+            identifier,
+        })?;
     }
     Ok(())
 }
@@ -73,7 +81,9 @@ fn identifier_of<'text>(
     index: usize,
     module: &Module<'text>,
     assignment: &Assignment<'text>,
-) -> Result<Option<ObjectIdentifier>, AllocError> {
+) -> Result<Option<ObjectIdentifier>, AllocError>
+    ensures { IfOk result (λ found. IfSome found (λ _. IsValue assignment.now.assigned)) }
+{
     let Assigned::Value { of, value } = assignment.assigned else {
         return Ok(None);
     };
