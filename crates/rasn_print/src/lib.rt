@@ -43,7 +43,7 @@ pub use catalog::{Catalog, modules_of, warnings_of};
 pub use command_line::{Call, ColorChoice, InputForm, Work, call_of, command};
 pub use fault::CallFault;
 pub use known::Known;
-pub use listing::{print_notation, print_types};
+pub use listing::print_types;
 pub use offsets::offsets_text;
 pub use printer::value_text;
 pub use reading::{check, show};

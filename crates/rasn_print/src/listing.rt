@@ -1,6 +1,7 @@
 //! Lists of the types of modules, and types as modules.
 
 use crate::catalog::{CONTENTS, named_type};
+use crate::command_line::Call;
 use crate::fault::CallFault;
 use crate::work::printed;
 use rasn_compiler::{Library, Modules, Root, Stop, TypeRef};
@@ -9,12 +10,30 @@ use std::alloc::{AllocError, Global};
 use std::collections::BTreeMap;
 use std::io::Write;
 
-/// Prints a type of the modules as a module, with the types that it is made of.
+/// Prints the type that a call names as a module, with the types that it is made of, or else a line
+/// for each type of the modules that aren't built in if the call has modules, and of those that are
+/// if it has none. Returns whether each has a schema.
 ///
 /// # Errors
-/// `Call` if it isn't known, or has no schema. `Write` if the output can't be written, `Closed` if
-/// its reader has gone, `Memory` if memory runs out.
-pub fn print_notation<W: Write>(
+/// `Call` if the type isn't known, or has no schema. `Write` if the output can't be written,
+/// `Closed` if its reader has gone, `Memory` if memory runs out.
+pub fn print_types<W: Write>(
+    alloc: Global,
+    read: &Modules<'_>,
+    call: &Call,
+    output: &mut W,
+) -> Result<bool, CallFault> {
+    match &call.type_name {
+        Some(name) => {
+            print_notation(alloc, read, name.as_str(), output)?;
+            Ok(true)
+        }
+        None => print_lines(alloc, read, !call.modules.is_empty(), output),
+    }
+}
+
+/// Prints a type of the modules as a module, with the types that it is made of.
+fn print_notation<W: Write>(
     alloc: Global,
     read: &Modules<'_>,
     name: &str,
@@ -41,11 +60,7 @@ pub fn print_notation<W: Write>(
 /// Prints a line for each type of the modules that aren't built in, or else of those that are: its
 /// name, the number of its constraints and contents that aren't checked, or why it has no schema. Of
 /// two modules of one name the first counts. Returns whether each has a schema.
-///
-/// # Errors
-/// `Write` if the output can't be written, `Closed` if its reader has gone, `Memory` if memory runs
-/// out.
-pub fn print_types<W: Write>(
+fn print_lines<W: Write>(
     alloc: Global,
     read: &Modules<'_>,
     are_own: bool,

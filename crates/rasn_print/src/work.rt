@@ -10,7 +10,7 @@ use crate::dump::{End, Entries, deeper_at};
 use crate::exact::exact_numbers;
 use crate::example::example_of;
 use crate::fingerprint::fingerprint_line;
-use crate::guess::octets_read;
+use crate::guess::{Likeness, likeness};
 use crate::known::{Candidates, Known};
 use crate::offsets::offsets_text;
 use crate::page::page_data;
@@ -191,14 +191,12 @@ fn closest_to<'a>(
     context: &Context<'a>,
     octets: &[u8],
 ) -> Result<Option<MessageType<'a>>, AllocError> {
-    let (mut most, mut closest) = (0, None);
+    let (mut most, mut closest) = (Likeness::NONE, None);
     for of in &context.known.types {
         let wanted = type_of(context, of);
-        let mut by_ber = wanted;
-        by_ber.rule = Codec::Ber;
-        let count = octets_read(context.alloc, &by_ber, octets)?;
-        if count > most {
-            most = count;
+        let found = likeness(context.alloc, &wanted, octets)?;
+        if found.is_more_than(&most) {
+            most = found;
             closest = Some(wanted);
         }
     }

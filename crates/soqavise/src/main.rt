@@ -11,7 +11,7 @@ use module_files::{module_files, read_text};
 use rasn_compiler::{Modules, Source};
 use rasn_print::{
     Call, CallFault, Catalog, ColorChoice, Session, Work, call_of, command, modules_of,
-    print_notation, print_types, warnings_of,
+    print_types, warnings_of,
 };
 use std::alloc::{AllocError, Global};
 use std::fs::File;
@@ -174,13 +174,7 @@ fn push_texts(
 /// Prints the types of the modules, or one of them. Returns whether each has a schema.
 fn run_types(rt: &HostRuntime, call: &Call, read: &Modules<'_>) -> Result<bool, CallFault> {
     let mut output = BufWriter::new(rt.alloc(), rt.stdout()).map_err(CallFault::of_write)?;
-    let are_whole = match &call.type_name {
-        Some(name) => {
-            print_notation(rt.alloc(), read, name.as_str(), &mut output)?;
-            true
-        }
-        None => print_types(rt.alloc(), read, !call.modules.is_empty(), &mut output)?,
-    };
+    let are_whole = print_types(rt.alloc(), read, call, &mut output)?;
     output.flush().map_err(CallFault::of_write)?;
     Ok(are_whole)
 }

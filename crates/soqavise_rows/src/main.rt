@@ -6,6 +6,7 @@ use clap::ArgMatches;
 use rasn_compiler::{Modules, Source};
 use rasn_print::{
     Call, CallFault, Catalog, ColorChoice, Session, Work, call_of, command, modules_of,
+    print_types,
 };
 use std::alloc::{AllocError, Global};
 use std::io::{BufRead, BufReader, BufWriter, Write};
@@ -36,10 +37,21 @@ const POINTS: Source<'static> = Source {
         END",
 };
 
+/// A module that names others as their standards do: RFC 5280's first module, and RFC 4120's, which
+/// has no type of the name that is wanted of it.
+const HOLDERS: Source<'static> = Source {
+    name: "holders.asn1",
+    text: "Holders DEFINITIONS EXPLICIT TAGS ::= BEGIN \
+        IMPORTS Name FROM PKIX1Explicit88 Coupon FROM KerberosV5Spec2; \
+        Holder ::= [PRIVATE 3] SEQUENCE { name Name } \
+        Lost ::= [PRIVATE 4] SEQUENCE { coupon Coupon } \
+        END",
+};
+
 /// Prints each row, and what its call prints.
 fn run_rows(rt: &HostRuntime) -> Result<(), CallFault> {
     let alloc = rt.alloc();
-    let (read, _) = modules_of(alloc, &[POINTS])?;
+    let (read, _) = modules_of(alloc, &[POINTS, HOLDERS])?;
     let input = BufReader::new(alloc, rt.stdin()).map_err(CallFault::of_write)?;
     let mut output = BufWriter::new(alloc, rt.stdout()).map_err(CallFault::of_write)?;
     for line in input.lines(alloc) {
@@ -53,7 +65,7 @@ fn run_rows(rt: &HostRuntime) -> Result<(), CallFault> {
     output.flush().map_err(CallFault::of_write)
 }
 
-/// Returns what the call of a line prints, and `status 1` if that is its exit status.
+/// Returns what the call of a line prints, and its exit status if that isn't 0.
 fn answer_of(alloc: Global, read: &Modules<'_>, line: &str) -> Result<String, CallFault> {
     let (call, input) = match line.split_once('"') {
         Some((call, text)) => (call.trim_ascii_end(), unquoted(alloc, text)?),
@@ -67,7 +79,10 @@ fn answer_of(alloc: Global, read: &Modules<'_>, line: &str) -> Result<String, Ca
     for word in call.split(' ') {
         words.push(word)?;
     }
-    answer_to_words(alloc, read, words.as_slice(), input.as_bytes())
+    match answer_to_words(alloc, read, words.as_slice(), input.as_bytes()) {
+        Err(CallFault::Call(text)) => Ok(format!(in alloc; "{text}status 2\n")?),
+        answered => answered,
+    }
 }
 
 /// Returns what the call of these words prints for an input.
@@ -103,9 +118,25 @@ fn answer_to_call(
     call: &Call,
     input: &[u8],
 ) -> Result<String, CallFault> {
+    if call.work == Work::Types {
+        return types_of(alloc, read, call);
+    }
     let mut catalog = Catalog::new(alloc, Some(read));
     catalog.resolve_named(alloc, call)?;
     run(alloc, call, catalog, input)
+}
+
+/// Returns what a call prints that asks for types.
+fn types_of(alloc: Global, read: &Modules<'_>, call: &Call) -> Result<String, CallFault> {
+    let mut output = Vec::new(alloc);
+    let are_whole = print_types(alloc, read, call, &mut output)?;
+    let status = if are_whole { "" } else { "status 1\n" };
+    Ok(format!(in alloc; "{}{status}", text_of(&output))?)
+}
+
+/// Returns octets as text.
+fn text_of(octets: &[u8]) -> &str {
+    str::from_utf8(octets).unwrap_or("other octets")
 }
 
 /// Returns a text in which `\n` is a line feed, `\e` an escape character and `\m` a byte order mark,
@@ -144,8 +175,7 @@ fn run(
         is_refused,
         ..
     } = session;
-    let shown = str::from_utf8(&output).unwrap_or("other octets");
-    let refused = str::from_utf8(&refusals).unwrap_or("other octets");
+    let (shown, refused) = (text_of(&output), text_of(&refusals));
     let status = if is_refused { "status 1\n" } else { "" };
     Ok(format!(in alloc; "{shown}{refused}{status}")?)
 }
