@@ -238,8 +238,9 @@ fn known_of<'text>(
 ) -> Result<Known<'text>, CallFault>
     ensures { IfOk result (λ known. known.candidates ≡ candidates) }
 {
+    let shown = contents_for(call.work, candidates);
     let mut all = Vec::from_slice(alloc, wanted.as_slice())?;
-    for name in contents_for(call.work, candidates) {
+    for name in shown {
         if let Some(of) = read.built_in(CONTENTS, name) {
             all.push(of)?;
         }
@@ -267,17 +268,22 @@ fn known_of<'text>(
         open,
         octets,
         bits,
-        identifiers: own_identifiers(alloc, read)?,
+        identifiers: identifiers_for(alloc, read, shown)?,
         is_cut: call.work == Work::Show && !call.is_full,
     })
 }
 
-/// Returns the names of the identifiers of modules that aren't built in: the first of each.
-fn own_identifiers(
+/// Returns the names of the identifiers of modules that aren't built in, the first of each, for work
+/// that shows contents by these types: none without types.
+fn identifiers_for(
     alloc: Global,
     read: &Modules<'_>,
+    shown: &[&str],
 ) -> Result<BTreeMap<ObjectIdentifier, String>, AllocError> {
     let mut names = BTreeMap::new(alloc);
+    if shown.is_empty() {
+        return Ok(names);
+    }
     for found in read.identifiers(alloc)? {
         let NamedIdentifier {
             name,

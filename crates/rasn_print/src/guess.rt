@@ -1,6 +1,5 @@
 //! Of which type a message seems to be that none of the types reads.
 
-use crate::dump::first_encoding;
 use crate::types::MessageType;
 use rasn_de::ber::de::{Decoder, DecoderOptions};
 use rasn_dynamic::check_or_locate;
@@ -11,33 +10,59 @@ use std::alloc::{AllocError, Global};
 /// How many values may be in one another whose parts are looked at.
 const LEVELS: usize = 8;
 
-/// How many octets of contents are skipped one by one before whole encodings are.
-const SKIPPED: usize = 64;
+/// How many octets of contents are tried one by one, since nothing says where an encoding begins.
+const TRIED: usize = 64;
 
-/// How much of octets a type reads that it doesn't read as a whole.
+/// How many octets an encoding has at most whose length has one octet (X.690 8.1.3.4).
+const SHORT: usize = 0x81;
+
+/// How much of a message a type reads that doesn't read it as a whole.
 #[derive(Clone, Copy)]
 pub(crate) struct Likeness {
-    /// The octets of parts that are read, and one for each other part that has the tag of its type.
+    /// The octets of parts that are read, and one for each part that isn't but has the tag of its
+    /// type. Of what could be something else less is counted.
     read: usize,
     /// The required components that aren't found.
     missing: usize,
+    /// Where the last part ends that is counted.
+    end: usize,
 }
 
 impl Likeness {
-    /// Of nothing.
+    /// That of nothing.
     pub(crate) const NONE: Likeness = Likeness {
         read: 0,
         missing: 0,
+        end: 0,
     };
+
+    /// Returns that so many octets are read.
+    fn of(len: usize) -> Likeness {
+        Likeness {
+            read: len,
+            missing: 0,
+            end: len,
+        }
+    }
+
+    /// Returns that of what is read a quarter counts, since it may be of another type as well.
+    fn doubtful(self) -> Likeness {
+        Likeness {
+            read: self.read.saturating_add(2) / 4,
+            ..self
+        }
+    }
 
     /// Returns whether more is read than in another case, or as much with fewer components missing.
     pub(crate) fn is_more_than(&self, other: &Likeness) -> bool {
         self.read > other.read || self.read == other.read && self.missing < other.missing
     }
 
-    fn add(&mut self, more: &Likeness) {
-        self.read = self.read.saturating_add(more.read);
-        self.missing = self.missing.saturating_add(more.missing);
+    /// Adds a part that begins at this octet.
+    fn add(&mut self, part: &Likeness, at: usize) {
+        self.read = self.read.saturating_add(part.read);
+        self.missing = self.missing.saturating_add(part.missing);
+        self.end = at.saturating_add(part.end);
     }
 }
 
@@ -48,6 +73,16 @@ struct Reader<'a> {
     schema: &'a Schema,
 }
 
+/// Octets in which parts of a type are looked for.
+#[derive(Clone, Copy)]
+struct Contents<'a> {
+    octets: &'a [u8],
+    /// How many octets are before them in the encoding that they are of.
+    before: usize,
+    /// Whether an encoding may begin at any of them, since a length before them is wrong.
+    is_lost: bool,
+}
+
 /// The parts of a type from an index on.
 #[derive(Clone, Copy)]
 struct PartsFrom<'a> {
@@ -55,23 +90,38 @@ struct PartsFrom<'a> {
     next: usize,
 }
 
-/// Returns how much a type reads of a message, whatever tag and length the message has.
+/// An encoding, or octets that begin as one.
+#[derive(Clone, Copy)]
+struct First<'a> {
+    octets: &'a [u8],
+    /// Whether it ends within the octets that it is in.
+    is_whole: bool,
+    /// Whether it may begin at another octet.
+    is_lost: bool,
+}
+
+/// Returns how much a type reads of a message, whatever tag and length the message has, if that is
+/// enough to say that the message is of the type.
 ///
 /// # Errors
 /// `AllocError` if memory runs out.
-pub(crate) fn likeness(
+pub(crate) fn likeness_of(
     alloc: Global,
     wanted: &MessageType<'_>,
     octets: &[u8],
 ) -> Result<Likeness, AllocError> {
-    let reader = Reader {
-        alloc,
-        schema: wanted.schema,
+    let schema = wanted.schema;
+    let Some(ty) = type_at(schema.types(), wanted.root) else {
+        return Ok(Likeness::NONE);
     };
-    match type_at(wanted.schema.types(), wanted.root) {
-        Some(ty) => parts_read(reader, ty, contents_for(ty, octets), LEVELS),
-        None => Ok(Likeness::NONE),
+    let reader = Reader { alloc, schema };
+    let mut found = parts_read(reader, ty, contents_for(ty, octets), LEVELS)?;
+    if first_tag(alloc, octets) == Some(ty.tag()) {
+        found.read = found.read.saturating_add(1);
+    } else if found.read < octets.len() / 2 {
+        return Ok(Likeness::NONE);
     }
+    Ok(if found.read > 1 { found } else { Likeness::NONE })
 }
 
 /// Returns how much a type of the schema reads of an encoding: all, or its parts.
@@ -79,36 +129,49 @@ pub(crate) fn likeness(
 fn read_by(
     reader: Reader<'_>,
     id: TypeId,
-    octets: &[u8],
+    first: First<'_>,
     levels: usize,
 ) -> Result<Likeness, AllocError> {
+    let octets = first.octets;
+    let all = Likeness::of(octets.len());
     let Some(ty) = type_at(reader.schema.types(), id) else {
         return Ok(Likeness::NONE);
     };
-    let is_choice = matches!(ty, Type::Choice { .. });
-    if is_open(ty) || !is_choice && first_tag(reader.alloc, octets) != Some(ty.tag()) {
-        return Ok(Likeness::NONE);
+    match ty {
+        Type::Choice { .. } => return parts_in(reader, ty, octets, levels),
+        Type::Any { tag } if *tag == Tag::EOC => return Ok(all.doubtful()),
+        _ if first_tag(reader.alloc, octets) != Some(ty.tag()) => return Ok(Likeness::NONE),
+        _ => {}
     }
-    if !is_choice {
-        match check_or_locate(reader.alloc, Codec::Ber, reader.schema, id, octets) {
-            Ok(rest) => {
-                return Ok(Likeness {
-                    read: octets.len().saturating_sub(rest.len()),
-                    missing: 0,
-                });
-            }
-            Err(refusal) if refusal.error.is_out_of_memory() => return Err(AllocError),
-            Err(_) => {}
+    match check_or_locate(reader.alloc, Codec::Ber, reader.schema, id, octets) {
+        Ok(_) if holds_open(reader.schema, ty) => return Ok(all.doubtful()),
+        Ok(_) => return Ok(all),
+        Err(refusal) if refusal.error.is_out_of_memory() => return Err(AllocError),
+        Err(_) => {}
+    }
+    let mut found = parts_in(reader, ty, octets, levels)?;
+    if found.read == 0 {
+        found.end = 1;
+        if !first.is_whole {
+            found.read = all.doubtful().read;
         }
     }
-    let mut found = Likeness::NONE;
-    if levels > 0 {
-        found = parts_read(reader, ty, contents_for(ty, octets), levels - 1)?;
-    }
-    if !is_choice {
-        found.read = found.read.saturating_add(1);
-    }
+    found.read = found.read.saturating_add(1);
     Ok(found)
+}
+
+/// Returns how much the parts of a type read of an encoding.
+#[cycle(read_by)]
+fn parts_in(
+    reader: Reader<'_>,
+    ty: &Type,
+    octets: &[u8],
+    levels: usize,
+) -> Result<Likeness, AllocError> {
+    if levels == 0 {
+        return Ok(Likeness::NONE);
+    }
+    parts_read(reader, ty, contents_for(ty, octets), levels - 1)
 }
 
 /// Returns how much of the encodings in these contents the parts of a type read, in their order.
@@ -116,27 +179,38 @@ fn read_by(
 fn parts_read(
     reader: Reader<'_>,
     ty: &Type,
-    contents: &[u8],
+    contents: Contents<'_>,
     levels: usize,
 ) -> Result<Likeness, AllocError> {
-    let (mut rest, mut next, mut skipped) = (contents, 0usize, 0usize);
+    let (mut rest, mut is_lost) = (contents.octets, contents.is_lost);
+    let (mut next, mut tries) = (0usize, TRIED);
     let mut sum = Likeness::NONE;
     // Each turn goes on by an octet at least.
-    for _ in contents {
-        if rest.is_empty() {
+    for _ in contents.octets {
+        if rest.is_empty() || tries == 0 {
             break;
         }
-        let (first, mut after) = first_encoding(reader.alloc, rest);
-        let (found, index) = most_read(reader, PartsFrom { ty, next }, first, levels)?;
+        let first = first_of(reader.alloc, rest, is_lost);
+        let (mut found, index) = most_read(reader, PartsFrom { ty, next }, first, levels)?;
+        if is_lost {
+            found = found.doubtful();
+        }
+        let mut step = first.octets.len();
         if found.read > 0 {
-            sum.add(&found);
+            let at = contents.octets.len().saturating_sub(rest.len());
+            sum.add(&found, at.saturating_add(contents.before));
             sum.missing = sum.missing.saturating_add(required(ty, next, index));
             next = index.saturating_add(1);
-        } else if skipped < SKIPPED {
-            skipped += 1;
-            after = rest.get(1..).unwrap_or(&[]);
+            is_lost = !first.is_whole;
+            if is_lost {
+                step = found.end;
+            }
+        } else if is_lost || !first.is_whole {
+            is_lost = true;
+            step = 1;
+            tries -= 1;
         }
-        rest = after;
+        rest = rest.get(step.max(1)..).unwrap_or(&[]);
     }
     sum.missing = sum.missing.saturating_add(required(ty, next, usize::MAX));
     Ok(sum)
@@ -147,7 +221,7 @@ fn parts_read(
 fn most_read(
     reader: Reader<'_>,
     parts: PartsFrom<'_>,
-    octets: &[u8],
+    first: First<'_>,
     levels: usize,
 ) -> Result<(Likeness, usize), AllocError> {
     let PartsFrom { ty, next } = parts;
@@ -156,31 +230,60 @@ fn most_read(
         let Some(id) = part_type(ty, index) else {
             break;
         };
-        let found = read_by(reader, id, octets, levels)?;
+        let found = read_by(reader, id, first, levels)?;
         if found.read > most.0.read {
             most = (found, index);
         }
-        if found.read >= octets.len() || has_one_part(ty) {
+        if found.read >= first.octets.len() || has_one_part(ty) {
             break;
         }
     }
+    if most.0.read == 0 && first.is_whole && !first.is_lost {
+        most.0 = read_within(reader, parts, first.octets, levels)?.doubtful();
+    }
     Ok(most)
+}
+
+/// Returns how much the next part reads of the contents of an encoding with another tag, if it is
+/// most of them.
+#[cycle(read_by)]
+fn read_within(
+    reader: Reader<'_>,
+    parts: PartsFrom<'_>,
+    octets: &[u8],
+    levels: usize,
+) -> Result<Likeness, AllocError> {
+    let Some(id) = part_type(parts.ty, parts.next) else {
+        return Ok(Likeness::NONE);
+    };
+    let Some(ty) = type_at(reader.schema.types(), id) else {
+        return Ok(Likeness::NONE);
+    };
+    let found = parts_in(reader, ty, octets, levels)?;
+    Ok(if found.read > octets.len() / 2 {
+        found
+    } else {
+        Likeness::NONE
+    })
 }
 
 /// Returns how many of the components with these indices are required.
 fn required(ty: &Type, from: usize, to: usize) -> usize {
     let mut count = 0usize;
-    for component in components_of(ty).get(from..).unwrap_or(&[]).iter().take(to.saturating_sub(from)) {
-        if matches!(component.presence, Presence::Required) {
+    for (index, component) in components_of(ty).iter().enumerate() {
+        if from <= index && index < to && matches!(component.presence, Presence::Required) {
             count = count.saturating_add(1);
         }
     }
     count
 }
 
-/// Returns whether a type is that of any values.
-fn is_open(ty: &Type) -> bool {
-    matches!(ty, Type::Any { .. } | Type::Unknown)
+/// Returns whether a type is an open type in an explicit tag, or one with a tag of its own.
+fn holds_open(schema: &Schema, ty: &Type) -> bool {
+    match ty {
+        Type::Tagged { inner, .. } => matches!(type_at(schema.types(), *inner), Some(Type::Any { .. })),
+        _ => matches!(ty, Type::Any { .. }),
+    }
 }
 
 /// Returns whether all parts of a type are of one type.
@@ -197,19 +300,29 @@ fn first_tag(alloc: Global, octets: &[u8]) -> Option<Tag> {
     decoder.peek_tag().ok()
 }
 
-/// Returns in which of the octets of a value of this type its parts are.
-fn contents_for<'a>(ty: &Type, octets: &'a [u8]) -> &'a [u8] {
-    match ty {
-        Type::Choice { .. } => octets,
-        _ => contents_of(octets),
+/// Returns the encoding with which octets begin, or all of them if it doesn't end in them.
+fn first_of(alloc: Global, octets: &[u8], is_lost: bool) -> First<'_> {
+    let mut decoder = Decoder::new(alloc, octets, DecoderOptions::of(Codec::Ber));
+    let is_whole = decoder.skip_value().is_ok();
+    let end = octets.len().saturating_sub(decoder.remaining().len());
+    First {
+        octets: if is_whole { octets.get(..end).unwrap_or(octets) } else { octets },
+        is_whole,
+        is_lost,
     }
 }
 
-/// Returns what is after the header of an encoding with one identifier octet (X.690 8.1.3).
-fn contents_of(octets: &[u8]) -> &[u8] {
-    let more = match octets.get(1) {
-        Some(length @ 0x81..=0x88) => (*length as usize).saturating_sub(0x80),
-        Some(_) | None => 0,
+/// Returns in which octets of a value of this type its parts are.
+fn contents_for<'a>(ty: &Type, octets: &'a [u8]) -> Contents<'a> {
+    let (before, is_lost) = match (ty, octets.get(1)) {
+        (Type::Choice { .. }, _) => (0, false),
+        (_, Some(length @ 0x81..=0x88)) => ((*length as usize).saturating_sub(0x7E), false),
+        (_, Some(length)) => (2, *length > 0x88 && octets.len() > SHORT),
+        (_, None) => (octets.len(), false),
     };
-    octets.get(more.saturating_add(2)..).unwrap_or(&[])
+    Contents {
+        octets: octets.get(before..).unwrap_or(&[]),
+        before,
+        is_lost,
+    }
 }

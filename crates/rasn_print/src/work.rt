@@ -10,7 +10,7 @@ use crate::dump::{End, Entries, deeper_at};
 use crate::exact::exact_numbers;
 use crate::example::example_of;
 use crate::fingerprint::fingerprint_line;
-use crate::guess::{Likeness, likeness};
+use crate::guess::{Likeness, likeness_of};
 use crate::known::{Candidates, Known};
 use crate::offsets::offsets_text;
 use crate::page::page_data;
@@ -194,7 +194,7 @@ fn closest_to<'a>(
     let (mut most, mut closest) = (Likeness::NONE, None);
     for of in &context.known.types {
         let wanted = type_of(context, of);
-        let found = likeness(context.alloc, &wanted, octets)?;
+        let found = likeness_of(context.alloc, &wanted, octets)?;
         if found.is_more_than(&most) {
             most = found;
             closest = Some(wanted);
