@@ -269,16 +269,19 @@ pub(crate) fn is_ended(rest: &[u8], is_indefinite: bool) -> bool {
     }
 }
 
+/// Returns the whole encoding with which octets begin, if there is one.
+pub(crate) fn whole_encoding(alloc: Global, octets: &[u8]) -> Option<&[u8]> {
+    let mut decoder = Decoder::new(alloc, octets, DecoderOptions::of(Codec::Ber));
+    decoder.skip_value().ok()?;
+    octets.get(..octets.len().saturating_sub(decoder.remaining().len()))
+}
+
 /// Returns the whole encoding with which octets begin, or all of them without one, and what follows
 /// it.
 pub(crate) fn first_encoding(alloc: Global, octets: &[u8]) -> (&[u8], &[u8]) {
-    let mut decoder = Decoder::new(alloc, octets, DecoderOptions::of(Codec::Ber));
-    match decoder.skip_value() {
-        Ok(_) => {
-            let end = octets.len().saturating_sub(decoder.remaining().len());
-            octets.split_at_checked(end).unwrap_or((octets, &[]))
-        }
-        Err(_) => (octets, &[]),
+    match whole_encoding(alloc, octets) {
+        Some(first) => (first, octets.get(first.len()..).unwrap_or(&[])),
+        None => (octets, &[]),
     }
 }
 

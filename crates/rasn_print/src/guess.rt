@@ -1,5 +1,6 @@
 //! Of which type a message seems to be that none of the types reads.
 
+use crate::dump::whole_encoding;
 use crate::types::MessageType;
 use rasn_de::ber::de::{Decoder, DecoderOptions};
 use rasn_dynamic::check_or_locate;
@@ -57,13 +58,6 @@ impl Likeness {
     pub(crate) fn is_more_than(&self, other: &Likeness) -> bool {
         self.read > other.read || self.read == other.read && self.missing < other.missing
     }
-
-    /// Adds a part that begins at this octet.
-    fn add(&mut self, part: &Likeness, at: usize) {
-        self.read = self.read.saturating_add(part.read);
-        self.missing = self.missing.saturating_add(part.missing);
-        self.end = at.saturating_add(part.end);
-    }
 }
 
 /// What parts are read by.
@@ -100,6 +94,74 @@ struct First<'a> {
     is_lost: bool,
 }
 
+/// Where parts are looked for in contents, and how much of them is read so far.
+#[derive(Clone, Copy)]
+struct Walk<'a> {
+    rest: &'a [u8],
+    /// How many octets are before them in the encoding that they are of.
+    at: usize,
+    /// Whether an encoding may begin at any of them.
+    is_lost: bool,
+    /// The index of the first part that may come.
+    next: usize,
+    /// How many more octets are tried one by one.
+    tries: usize,
+    sum: Likeness,
+}
+
+impl<'a> Walk<'a> {
+    fn of(contents: Contents<'a>) -> Walk<'a> {
+        Walk {
+            rest: contents.octets,
+            at: contents.before,
+            is_lost: contents.is_lost,
+            next: 0,
+            tries: TRIED,
+            sum: Likeness::NONE,
+        }
+    }
+
+    /// Counts an encoding of which the part with this index reads so much, and goes on after it.
+    fn count(&mut self, ty: &Type, first: First<'_>, found: Likeness, index: usize) {
+        self.miss(ty, index);
+        self.next = index.saturating_add(1);
+        self.sum.read = self.sum.read.saturating_add(found.read);
+        self.sum.missing = self.sum.missing.saturating_add(found.missing);
+        self.sum.end = self.at.saturating_add(found.end);
+        self.is_lost = !first.is_whole;
+        self.go_on(if first.is_whole {
+            first.octets.len()
+        } else {
+            found.end
+        });
+    }
+
+    /// Goes on after an encoding of which no part reads anything, or one octet if nothing says where
+    /// it ends.
+    fn skip(&mut self, first: First<'_>) {
+        if first.is_lost || !first.is_whole {
+            self.is_lost = true;
+            self.tries = self.tries.saturating_sub(1);
+            self.go_on(1);
+        } else {
+            self.go_on(first.octets.len());
+        }
+    }
+
+    /// Counts the required components that aren't found before the one with this index.
+    fn miss(&mut self, ty: &Type, index: usize) {
+        let missing = required(ty, self.next, index);
+        self.sum.missing = self.sum.missing.saturating_add(missing);
+    }
+
+    /// Goes on by so many octets, and by one at least.
+    fn go_on(&mut self, len: usize) {
+        let len = len.max(1);
+        self.at = self.at.saturating_add(len);
+        self.rest = self.rest.get(len..).unwrap_or(&[]);
+    }
+}
+
 /// Returns how much a type reads of a message, whatever tag and length the message has, if that is
 /// enough to say that the message is of the type.
 ///
@@ -121,7 +183,11 @@ pub(crate) fn likeness_of(
     } else if found.read < octets.len() / 2 {
         return Ok(Likeness::NONE);
     }
-    Ok(if found.read > 1 { found } else { Likeness::NONE })
+    Ok(if found.read > 1 {
+        found
+    } else {
+        Likeness::NONE
+    })
 }
 
 /// Returns how much a type of the schema reads of an encoding: all, or its parts.
@@ -137,14 +203,17 @@ fn read_by(
     let Some(ty) = type_at(reader.schema.types(), id) else {
         return Ok(Likeness::NONE);
     };
-    match ty {
-        Type::Choice { .. } => return parts_in(reader, ty, octets, levels),
-        Type::Any { tag } if *tag == Tag::EOC => return Ok(all.doubtful()),
-        _ if first_tag(reader.alloc, octets) != Some(ty.tag()) => return Ok(Likeness::NONE),
-        _ => {}
+    if let Type::Choice { .. } = ty {
+        return parts_in(reader, ty, octets, levels);
+    }
+    if is_any(ty) && ty.tag() == Tag::EOC {
+        return Ok(all.doubtful());
+    }
+    if first_tag(reader.alloc, octets) != Some(ty.tag()) {
+        return Ok(Likeness::NONE);
     }
     match check_or_locate(reader.alloc, Codec::Ber, reader.schema, id, octets) {
-        Ok(_) if holds_open(reader.schema, ty) => return Ok(all.doubtful()),
+        Ok(_) if holds_any(reader.schema, ty) => return Ok(all.doubtful()),
         Ok(_) => return Ok(all),
         Err(refusal) if refusal.error.is_out_of_memory() => return Err(AllocError),
         Err(_) => {}
@@ -182,38 +251,26 @@ fn parts_read(
     contents: Contents<'_>,
     levels: usize,
 ) -> Result<Likeness, AllocError> {
-    let (mut rest, mut is_lost) = (contents.octets, contents.is_lost);
-    let (mut next, mut tries) = (0usize, TRIED);
-    let mut sum = Likeness::NONE;
+    let mut walk = Walk::of(contents);
     // Each turn goes on by an octet at least.
     for _ in contents.octets {
-        if rest.is_empty() || tries == 0 {
+        if walk.rest.is_empty() || walk.tries == 0 {
             break;
         }
-        let first = first_of(reader.alloc, rest, is_lost);
-        let (mut found, index) = most_read(reader, PartsFrom { ty, next }, first, levels)?;
-        if is_lost {
-            found = found.doubtful();
-        }
-        let mut step = first.octets.len();
+        let first = first_of(reader.alloc, walk.rest, walk.is_lost);
+        let parts = PartsFrom {
+            ty,
+            next: walk.next,
+        };
+        let (found, index) = most_read(reader, parts, first, levels)?;
         if found.read > 0 {
-            let at = contents.octets.len().saturating_sub(rest.len());
-            sum.add(&found, at.saturating_add(contents.before));
-            sum.missing = sum.missing.saturating_add(required(ty, next, index));
-            next = index.saturating_add(1);
-            is_lost = !first.is_whole;
-            if is_lost {
-                step = found.end;
-            }
-        } else if is_lost || !first.is_whole {
-            is_lost = true;
-            step = 1;
-            tries -= 1;
+            walk.count(ty, first, found, index);
+        } else {
+            walk.skip(first);
         }
-        rest = rest.get(step.max(1)..).unwrap_or(&[]);
     }
-    sum.missing = sum.missing.saturating_add(required(ty, next, usize::MAX));
-    Ok(sum)
+    walk.miss(ty, usize::MAX);
+    Ok(walk.sum)
 }
 
 /// Returns how much of an encoding that part reads that reads most of it, and its index.
@@ -238,10 +295,14 @@ fn most_read(
             break;
         }
     }
-    if most.0.read == 0 && first.is_whole && !first.is_lost {
-        most.0 = read_within(reader, parts, first.octets, levels)?.doubtful();
+    let (mut found, index) = most;
+    if found.read == 0 && first.is_whole && !first.is_lost {
+        found = read_within(reader, parts, first.octets, levels)?.doubtful();
     }
-    Ok(most)
+    if first.is_lost {
+        found = found.doubtful();
+    }
+    Ok((found, index))
 }
 
 /// Returns how much the next part reads of the contents of an encoding with another tag, if it is
@@ -278,12 +339,20 @@ fn required(ty: &Type, from: usize, to: usize) -> usize {
     count
 }
 
-/// Returns whether a type is an open type in an explicit tag, or one with a tag of its own.
-fn holds_open(schema: &Schema, ty: &Type) -> bool {
-    match ty {
-        Type::Tagged { inner, .. } => matches!(type_at(schema.types(), *inner), Some(Type::Any { .. })),
-        _ => matches!(ty, Type::Any { .. }),
+/// Returns whether a type is an open type.
+fn is_any(ty: &Type) -> bool {
+    matches!(ty, Type::Any { .. })
+}
+
+/// Returns whether a type is an open type, also in an explicit tag.
+fn holds_any(schema: &Schema, ty: &Type) -> bool {
+    if let Type::Tagged { inner, .. } = ty {
+        return match type_at(schema.types(), *inner) {
+            Some(inner) => is_any(inner),
+            None => false,
+        };
     }
+    is_any(ty)
 }
 
 /// Returns whether all parts of a type are of one type.
@@ -302,23 +371,21 @@ fn first_tag(alloc: Global, octets: &[u8]) -> Option<Tag> {
 
 /// Returns the encoding with which octets begin, or all of them if it doesn't end in them.
 fn first_of(alloc: Global, octets: &[u8], is_lost: bool) -> First<'_> {
-    let mut decoder = Decoder::new(alloc, octets, DecoderOptions::of(Codec::Ber));
-    let is_whole = decoder.skip_value().is_ok();
-    let end = octets.len().saturating_sub(decoder.remaining().len());
+    let whole = whole_encoding(alloc, octets);
     First {
-        octets: if is_whole { octets.get(..end).unwrap_or(octets) } else { octets },
-        is_whole,
+        octets: whole.unwrap_or(octets),
+        is_whole: whole.is_some(),
         is_lost,
     }
 }
 
-/// Returns in which octets of a value of this type its parts are.
+/// Returns in which octets of a value of this type its parts are (X.690 8.1.3).
 fn contents_for<'a>(ty: &Type, octets: &'a [u8]) -> Contents<'a> {
-    let (before, is_lost) = match (ty, octets.get(1)) {
-        (Type::Choice { .. }, _) => (0, false),
-        (_, Some(length @ 0x81..=0x88)) => ((*length as usize).saturating_sub(0x7E), false),
-        (_, Some(length)) => (2, *length > 0x88 && octets.len() > SHORT),
-        (_, None) => (octets.len(), false),
+    let (before, is_lost) = match octets.get(1) {
+        _ if matches!(ty, Type::Choice { .. }) => (0, false),
+        Some(length @ 0x81..=0x88) => ((*length as usize).saturating_sub(0x7E), false),
+        Some(length) => (2, *length > 0x88 && octets.len() > SHORT),
+        None => (octets.len(), false),
     };
     Contents {
         octets: octets.get(before..).unwrap_or(&[]),

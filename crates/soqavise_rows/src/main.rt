@@ -5,8 +5,7 @@
 use clap::ArgMatches;
 use rasn_compiler::{Modules, Source};
 use rasn_print::{
-    Call, CallFault, Catalog, ColorChoice, Session, Work, call_of, command, modules_of,
-    print_types,
+    Call, CallFault, Catalog, ColorChoice, Session, Work, call_of, command, modules_of, print_types,
 };
 use std::alloc::{AllocError, Global};
 use std::io::{BufRead, BufReader, BufWriter, Write};
