@@ -108,7 +108,7 @@ struct Walk<'a> {
     at: usize,
     /// Whether an encoding may begin at any of them.
     is_lost: bool,
-    /// The index of the first part that may come.
+    /// The index of the first part that may be next.
     next: usize,
     /// How many more octets are tried one by one.
     tries: usize,
