@@ -21,7 +21,7 @@
 #include <stddef.h>
 #include <stdint.h>
 
-#define SOQ_VERSION "0.31.0"
+#define SOQ_VERSION "0.32.0"
 
 #ifdef __cplusplus
 extern "C" {

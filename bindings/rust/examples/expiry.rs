@@ -1,6 +1,6 @@
 //! Prints the subject of each certificate of a PEM file, and the time at which its validity ends
 //! (RFC 5280 4.1): `cargo run --example expiry certificates.asn1 certificates.pem`. With the package
-//! cargo needs `--manifest-path /usr/share/soqavise/rust/Cargo.toml --target-dir target`, too.
+//! cargo needs `--manifest-path share/soqavise/rust/Cargo.toml`, too.
 use soqavise::{name_text, pem, Rules, Schema};
 
 fn main() -> Result<(), Box<dyn std::error::Error>> {
