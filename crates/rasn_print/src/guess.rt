@@ -58,12 +58,6 @@ impl Likeness {
     pub(crate) fn is_more_than(&self, other: &Likeness) -> bool {
         self.read > other.read || self.read == other.read && self.missing < other.missing
     }
-
-    /// Returns whether hardly any of so many octets are left and no component is missing, so that no
-    /// other type need be tried.
-    pub(crate) fn is_nearly_all(&self, len: usize) -> bool {
-        self.missing == 0 && self.read > len.saturating_sub(len / 8)
-    }
 }
 
 /// What parts are read by.

@@ -195,9 +195,6 @@ fn closest_to<'a>(
     for of in &context.known.types {
         let wanted = type_of(context, of);
         let found = likeness_of(context.alloc, &wanted, octets)?;
-        if found.is_nearly_all(octets.len()) {
-            return Ok(Some(wanted));
-        }
         if found.is_more_than(&most) {
             most = found;
             closest = Some(wanted);
