@@ -1,4 +1,4 @@
-//! Of which type a message seems to be that none of the types reads.
+//! Guesses the type of a message that none of the types reads.
 
 use crate::dump::whole_encoding;
 use crate::types::MessageType;
@@ -8,16 +8,20 @@ use rasn_schema::{Presence, Schema, Type, TypeId, components_of, part_type, type
 use rasn_types::types::{Codec, Tag};
 use std::alloc::{AllocError, Global};
 
-/// How many values may be in one another whose parts are looked at.
+/// Limits how many octets of a message are looked at.
+const LOOKED_AT: usize = 16_384;
+
+/// Limits how many values in one another have their parts looked at.
 const LEVELS: usize = 8;
 
-/// How many octets of contents are tried one by one, since nothing says where an encoding begins.
+/// Limits at how many octets of a message it is tried whether an encoding begins that a wrong length
+/// hides, or one whose end isn't found, so that the time doesn't grow with their number.
 const TRIED: usize = 64;
 
-/// How many octets an encoding has at most whose length has one octet (X.690 8.1.3.4).
+/// Has the greatest length of an encoding whose length takes one octet (X.690 8.1.3.4).
 const SHORT: usize = 0x81;
 
-/// How much of a message a type reads that doesn't read it as a whole.
+/// Says how much of a message a type reads that doesn't read it as a whole.
 #[derive(Clone, Copy)]
 pub(crate) struct Likeness {
     /// The octets of parts that are read, and one for each part that isn't but has the tag of its
@@ -25,12 +29,12 @@ pub(crate) struct Likeness {
     read: usize,
     /// The required components that aren't found.
     missing: usize,
-    /// Where the last part ends that is counted.
+    /// Says where the last part ends that is counted.
     end: usize,
 }
 
 impl Likeness {
-    /// That of nothing.
+    /// Says that nothing is read.
     pub(crate) const NONE: Likeness = Likeness {
         read: 0,
         missing: 0,
@@ -60,7 +64,7 @@ impl Likeness {
     }
 }
 
-/// What parts are read by.
+/// Has what parts are read by.
 #[derive(Clone, Copy)]
 struct Reader<'a> {
     alloc: Global,
@@ -104,8 +108,6 @@ struct Walk<'a> {
     is_lost: bool,
     /// The index of the first part that may be next.
     next: usize,
-    /// How many more octets are tried one by one.
-    tries: usize,
     sum: Likeness,
 }
 
@@ -116,7 +118,6 @@ impl<'a> Walk<'a> {
             at: contents.before,
             is_lost: contents.is_lost,
             next: 0,
-            tries: TRIED,
             sum: Likeness::NONE,
         }
     }
@@ -141,7 +142,6 @@ impl<'a> Walk<'a> {
     fn skip(&mut self, first: First<'_>) {
         if first.is_lost || !first.is_whole {
             self.is_lost = true;
-            self.tries = self.tries.saturating_sub(1);
             self.go_on(1);
         } else {
             self.go_on(first.octets.len());
@@ -177,7 +177,9 @@ pub(crate) fn likeness_of(
         return Ok(Likeness::NONE);
     };
     let reader = Reader { alloc, schema };
-    let mut found = parts_read(reader, ty, contents_for(ty, octets), LEVELS)?;
+    let octets = octets.get(..LOOKED_AT).unwrap_or(octets);
+    let mut tries = TRIED;
+    let mut found = parts_read(reader, ty, contents_for(ty, octets), LEVELS, &mut tries)?;
     if first_tag(alloc, octets) == Some(ty.tag()) {
         found.read = found.read.saturating_add(1);
     } else if found.read < octets.len() / 2 {
@@ -197,6 +199,7 @@ fn read_by(
     id: TypeId,
     first: First<'_>,
     levels: usize,
+    tries: &mut usize,
 ) -> Result<Likeness, AllocError> {
     let octets = first.octets;
     let all = Likeness::of(octets.len());
@@ -204,7 +207,7 @@ fn read_by(
         return Ok(Likeness::NONE);
     };
     if let Type::Choice { .. } = ty {
-        return parts_in(reader, ty, octets, levels);
+        return parts_in(reader, ty, octets, levels, tries);
     }
     if is_any(ty) && ty.tag() == Tag::EOC {
         return Ok(all.doubtful());
@@ -218,7 +221,7 @@ fn read_by(
         Err(refusal) if refusal.error.is_out_of_memory() => return Err(AllocError),
         Err(_) => {}
     }
-    let mut found = parts_in(reader, ty, octets, levels)?;
+    let mut found = parts_in(reader, ty, octets, levels, tries)?;
     if found.read == 0 {
         found.end = 1;
         if !first.is_whole {
@@ -236,11 +239,12 @@ fn parts_in(
     ty: &Type,
     octets: &[u8],
     levels: usize,
+    tries: &mut usize,
 ) -> Result<Likeness, AllocError> {
     if levels == 0 {
         return Ok(Likeness::NONE);
     }
-    parts_read(reader, ty, contents_for(ty, octets), levels - 1)
+    parts_read(reader, ty, contents_for(ty, octets), levels - 1, tries)
 }
 
 /// Returns how much of the encodings in these contents the parts of a type read, in their order.
@@ -250,19 +254,23 @@ fn parts_read(
     ty: &Type,
     contents: Contents<'_>,
     levels: usize,
+    tries: &mut usize,
 ) -> Result<Likeness, AllocError> {
     let mut walk = Walk::of(contents);
     // Each turn goes on by an octet at least.
     for _ in contents.octets {
-        if walk.rest.is_empty() || walk.tries == 0 {
+        if walk.rest.is_empty() || *tries == 0 {
             break;
         }
         let first = first_of(reader.alloc, walk.rest, walk.is_lost);
+        if first.is_lost || !first.is_whole {
+            *tries = tries.saturating_sub(1);
+        }
         let parts = PartsFrom {
             ty,
             next: walk.next,
         };
-        let (found, index) = most_read(reader, parts, first, levels)?;
+        let (found, index) = most_read(reader, parts, first, levels, tries)?;
         if found.read > 0 {
             walk.count(ty, first, found, index);
         } else {
@@ -280,6 +288,7 @@ fn most_read(
     parts: PartsFrom<'_>,
     first: First<'_>,
     levels: usize,
+    tries: &mut usize,
 ) -> Result<(Likeness, usize), AllocError> {
     let PartsFrom { ty, next } = parts;
     let mut most = (Likeness::NONE, next);
@@ -287,7 +296,7 @@ fn most_read(
         let Some(id) = part_type(ty, index) else {
             break;
         };
-        let found = read_by(reader, id, first, levels)?;
+        let found = read_by(reader, id, first, levels, tries)?;
         if found.read > most.0.read {
             most = (found, index);
         }
@@ -297,7 +306,7 @@ fn most_read(
     }
     let (mut found, index) = most;
     if found.read == 0 && first.is_whole && !first.is_lost {
-        found = read_within(reader, parts, first.octets, levels)?.doubtful();
+        found = read_within(reader, parts, first.octets, levels, tries)?.doubtful();
     }
     if first.is_lost {
         found = found.doubtful();
@@ -313,6 +322,7 @@ fn read_within(
     parts: PartsFrom<'_>,
     octets: &[u8],
     levels: usize,
+    tries: &mut usize,
 ) -> Result<Likeness, AllocError> {
     let Some(id) = part_type(parts.ty, parts.next) else {
         return Ok(Likeness::NONE);
@@ -320,7 +330,7 @@ fn read_within(
     let Some(ty) = type_at(reader.schema.types(), id) else {
         return Ok(Likeness::NONE);
     };
-    let found = parts_in(reader, ty, octets, levels)?;
+    let found = parts_in(reader, ty, octets, levels, tries)?;
     Ok(if found.read > octets.len() / 2 {
         found
     } else {
