@@ -14,9 +14,12 @@ const LOOKED_AT: usize = 16_384;
 /// Limits how many values in one another have their parts looked at.
 const LEVELS: usize = 8;
 
-/// Limits at how many octets of a message it is tried whether an encoding begins that a wrong length
-/// hides, or one whose end isn't found, so that the time doesn't grow with their number.
+/// Limits at how many octets of contents a part is looked for one octet after the other.
 const TRIED: usize = 64;
+
+/// Limits how often that is done in a message, and how many encodings without an end are looked at:
+/// each may take as long as the message.
+const TRIED_IN_ALL: usize = 4_096;
 
 /// Has the greatest length of an encoding whose length takes one octet (X.690 8.1.3.4).
 const SHORT: usize = 0x81;
@@ -108,6 +111,8 @@ struct Walk<'a> {
     is_lost: bool,
     /// The index of the first part that may be next.
     next: usize,
+    /// How many more octets are tried one by one.
+    tries: usize,
     sum: Likeness,
 }
 
@@ -118,6 +123,7 @@ impl<'a> Walk<'a> {
             at: contents.before,
             is_lost: contents.is_lost,
             next: 0,
+            tries: TRIED,
             sum: Likeness::NONE,
         }
     }
@@ -142,6 +148,7 @@ impl<'a> Walk<'a> {
     fn skip(&mut self, first: First<'_>) {
         if first.is_lost || !first.is_whole {
             self.is_lost = true;
+            self.tries = self.tries.saturating_sub(1);
             self.go_on(1);
         } else {
             self.go_on(first.octets.len());
@@ -178,7 +185,7 @@ pub(crate) fn likeness_of(
     };
     let reader = Reader { alloc, schema };
     let octets = octets.get(..LOOKED_AT).unwrap_or(octets);
-    let mut tries = TRIED;
+    let mut tries = TRIED_IN_ALL;
     let mut found = parts_read(reader, ty, contents_for(ty, octets), LEVELS, &mut tries)?;
     if first_tag(alloc, octets) == Some(ty.tag()) {
         found.read = found.read.saturating_add(1);
@@ -259,7 +266,7 @@ fn parts_read(
     let mut walk = Walk::of(contents);
     // Each turn goes on by an octet at least.
     for _ in contents.octets {
-        if walk.rest.is_empty() || *tries == 0 {
+        if walk.rest.is_empty() || walk.tries == 0 || *tries == 0 {
             break;
         }
         let first = first_of(reader.alloc, walk.rest, walk.is_lost);
