@@ -58,7 +58,7 @@ _soqavise() {
         lint) options='-m --module -t --type -l --lines --errors --stream -i --input --outer' ;;
         json) options='-m --module -t --type -l --lines --errors --stream -i --input -r --rules --numbers' ;;
         encode) options='-m --module -t --type --example -r --rules -l --lines --errors' ;;
-        normalise) options='-m --module -t --type -l --lines --errors --stream -i --input -r --rules' ;;
+        normalise) options='-m --module -t --type -l --lines --errors --stream -i --input -r --rules --local' ;;
         types) options='-m --module' ;;
         dump) options='-m --module -i --input' ;;
         get) options='-m --module -t --type -l --lines --errors --stream -i --input -r --rules --json' ;;
@@ -79,6 +79,7 @@ _soqavise() {
         *' -r' | *' --rules') _soqavise_words 'ber cer der' ;;
         *' --color') _soqavise_words 'auto always never' ;;
         *' --numbers') _soqavise_words 'json text' ;;
+        *' --local') _soqavise_words 'utc' ;;
         *' --out') _soqavise_folders ;;
         *' --also') compopt +o default 2> /dev/null ;;
         *)

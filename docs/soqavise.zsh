@@ -118,6 +118,7 @@ _soqavise() {
                         --stream'[Reads several messages in a row, with nothing between them]' \
                         '(-i --input)'{-i+,--input=}'[The form of the input (without it, it is found out)]:FORM:(der pem hex base64)' \
                         '(-r --rules)'{-r+,--rules=}'[The encoding rules by which messages are read (without it, BER for types of CMS, LDAP, PKCS12 and SNMP, DER for others)]:RULES:(ber cer der)' \
+                        --local='[What a time without a zone counts as (without it, the message is refused)]:ZONE:(utc)' \
                         '*:FILE:_files'
                     ;;
                 types)

@@ -3,7 +3,8 @@
  *
  * Each function checks pointers and lengths, and passes them to a function of the crate rasn_c, which is proved. The comment before it says
  * what it guarantees, and names the contract that the guarantee rests on. The contracts assume that no pointer is null and that no memory
- * overlaps. No proof covers that; the checks, which are in soqavise.c, ensure it.
+ * overlaps. No proof covers that; the checks, which are in soqavise.c, ensure it. The functions at the end, which are `static inline`, are
+ * compiled with the program and call the others; no proof covers them.
  *
  * Every function:
  * - has no state and keeps nothing, so any number of threads may call it at the same time. A signal handler must not call it.
@@ -20,6 +21,7 @@
 
 #include <stddef.h>
 #include <stdint.h>
+#include <string.h>
 
 #define SOQ_VERSION "0.32.0"
 
@@ -214,8 +216,11 @@ typedef enum soq_part_kind {
     SOQ_PART_OCTET_STRING = 4,
     SOQ_PART_NULL = 5,
     SOQ_PART_OBJECT_IDENTIFIER = 6,
+    SOQ_PART_REAL = 9,
     SOQ_PART_ENUMERATED = 10,
     SOQ_PART_UTF8 = 12,
+    SOQ_PART_RELATIVE_OID = 13,
+    SOQ_PART_TIME = 14,
     SOQ_PART_SEQUENCE = 16,
     SOQ_PART_SET = 17,
     SOQ_PART_NUMERIC = 18,
@@ -226,11 +231,15 @@ typedef enum soq_part_kind {
     SOQ_PART_VISIBLE = 26,
     /* GeneralString, GraphicString, TeletexString or VideotexString */
     SOQ_PART_ANY_OCTETS = 27,
+    SOQ_PART_UNIVERSAL = 28,
     SOQ_PART_BMP = 30,
     SOQ_PART_DATE = 31,
+    SOQ_PART_TIME_OF_DAY = 32,
+    SOQ_PART_DATE_TIME = 33,
+    SOQ_PART_DURATION = 34,
     SOQ_PART_SEQUENCE_OF = 48,
     SOQ_PART_SET_OF = 49,
-    /* The alternative that is chosen has the octets. */
+    /* The alternative that is chosen has the octets, and the tag is its tag. */
     SOQ_PART_CHOICE = 64,
     /* An explicit tag: its contents are the encoding that it holds. */
     SOQ_PART_TAGGED = 65,
@@ -293,7 +302,8 @@ soq_status soq_skip(soq_rule rule, const uint8_t *octets, size_t length, soq_pas
  * Returns whether the octets are the one DER encoding of a value of the type.
  *
  * It doesn't check inside open types, such as the parameters of an algorithm and the values in a name, nor inside the octets of an
- * extension. An open type is an identifier and a definite length, in any form, and any contents. SOQ_ANY is one: for `02 81 01 05` the
+ * extension. The filter of a search is an open type of SOQ_LDAP: a broken one passes. `soq_check_by` with a schema of LDAPMessage looks into
+ * filters. An open type is an identifier and a definite length, in any form, and any contents. SOQ_ANY is one: for `02 81 01 05` the
  * function returns SOQ_OK, although the length isn't in the fewest octets.
  *
  * SOQ_OK: they are. All of them are one value under DER, and its encoding is these octets and no others.
@@ -480,6 +490,11 @@ soq_status soq_check_by(const uint8_t *schema, size_t schema_length, soq_rule ru
  * explicit tag on the way has no name; one at the end is the part, and its contents are the encoding that it holds. Parts after it aren't
  * read.
  *
+ * A CHOICE is of the kind SOQ_PART_CHOICE, whatever alternative is chosen: `tbsCertificate.validity.notAfter` is never SOQ_PART_UTC_TIME.
+ * Which one it is, `part->tag_class` and `part->tag_number` say, 0 and 23 for a UTCTime; or a path that goes on with the name of an
+ * alternative, which is SOQ_OK for the one that is chosen, with its kind, and SOQ_ABSENT for another; or `soq_parts`, which lists the
+ * alternative with its name after the CHOICE.
+ *
  * SOQ_OK: the octets at `part->offset` of `part->length` octets are those from which the part at this path of the value was read.
  * SOQ_ABSENT: a component on the way is absent, another alternative is chosen, or there are fewer elements.
  * SOQ_UNKNOWN_PATH: no value of the type has a part with this path, or the text isn't a path.
@@ -570,8 +585,10 @@ typedef struct soq_block {
 
 /*
  * Writes the octets of the block of PEM (RFC 7468) with this index, counted from 0, to the buffer, and where it is to `block`. The text has
- * `length` octets, without a zero. A block begins with a line `-----BEGIN LABEL-----`; other lines between blocks are skipped. All blocks of
- * a text: call with 0, 1 and so on until the status is SOQ_ABSENT.
+ * `length` octets, without a zero. A block begins with a line `-----BEGIN LABEL-----`; other lines between blocks are skipped.
+ *
+ * Each call decodes all blocks of its text. To call it with 0, 1 and so on takes time that grows with the square of their number: go through
+ * a text of many blocks by `soq_pem_front`.
  *
  * SOQ_OK: the block has `*needed` octets. The rest of the buffer is unchanged.
  * SOQ_BUFFER_TOO_SMALL: it has `*needed` octets, which is more than `capacity`. The buffer is unchanged.
@@ -599,6 +616,143 @@ soq_status soq_pem(const char *text, size_t length, size_t index, soq_block *blo
  */
 soq_status soq_extension(soq_rule rule, const uint8_t *octets, size_t length, const char *identifier, uint8_t *buffer,
                          size_t capacity, size_t *needed);
+
+/*
+ * Returns how many octets the front of the text has: up to the second line that may be the first of a block, or up to the first if the text
+ * doesn't begin with one. It isn't 0 unless `length` is. No block goes on beyond such a line, so these are all blocks of a text, in time
+ * that grows with its length:
+ *
+ *     for (; length != 0; text += front, length -= front) {
+ *         front = soq_pem_front(text, length);
+ *         status = soq_pem(text, front, 0, &block, buffer, capacity, &needed);
+ *         .. there is no block in this front if the status is SOQ_ABSENT ..
+ *     }
+ *
+ * `block.label` and `block.line` count from the start of the front. The text isn't null, unless `length` is 0; that isn't tested.
+ */
+static inline size_t soq_pem_front(const char *text, size_t length) {
+    static const char begin[] = "-----BEGIN ";
+    const size_t size = sizeof begin - 1;
+    const char *line = text;
+    size_t left = length;
+    while (left > size) {
+        const char *feed = (const char *)memchr(line, '\n', left);
+        if (feed == NULL) {
+            break;
+        }
+        left -= (size_t)(feed - line) + 1;
+        line = feed + 1;
+        if (left >= size && memcmp(line, begin, size) == 0) {
+            return length - left;
+        }
+    }
+    return length;
+}
+
+/*
+ * Returns the value of the BOOLEAN that all of the octets are: 0 or 1. Its tag may be any.
+ *
+ * SOQ_OK: they are one. Under SOQ_DER and SOQ_CER the contents octet is then 00 or FF.
+ * SOQ_REFUSED: they aren't one under these rules.
+ * For each other status `*value` is 0; the others are those of `soq_integer_i64`, which reads the octet (X.690 8.2 and 8.3).
+ */
+static inline soq_status soq_bool(soq_rule rule, const uint8_t *octets, size_t length, int *value) {
+    soq_encoding encoding;
+    int64_t number;
+    soq_status status = value == NULL ? SOQ_NULL_POINTER : soq_integer_i64(rule, octets, length, &number);
+    if (value != NULL) {
+        *value = 0;
+    }
+    if (status == SOQ_OK) {
+        status = soq_next(rule, octets, length, &encoding);
+    }
+    if (status != SOQ_OK) {
+        return status;
+    }
+    if (encoding.contents != 1 || (rule != SOQ_BER && number != 0 && number != -1)) {
+        return SOQ_REFUSED;
+    }
+    *value = number != 0;
+    return SOQ_OK;
+}
+
+/* Counts the octets of these segments of an OCTET STRING and, unless the buffer is null, copies them there. */
+static inline soq_status soq_segments(soq_rule rule, const uint8_t *octets, size_t length, uint8_t *buffer, size_t *found) {
+    size_t at = 0;
+    *found = 0;
+    while (at < length) {
+        soq_encoding segment;
+        soq_status status;
+        if (length - at >= 2 && octets[at] == 0 && octets[at + 1] == 0) {
+            at += 2; /* the end-of-contents octets of a segment that is in segments */
+            continue;
+        }
+        status = soq_next(rule, octets + at, length - at, &segment);
+        if (status != SOQ_OK) {
+            return status;
+        }
+        if (segment.tag_class != 0 || segment.tag_number != 4) {
+            return SOQ_REFUSED;
+        }
+        at += segment.header;
+        if (!segment.constructed) {
+            if (buffer != NULL && segment.contents != 0) {
+                memcpy(buffer + *found, octets + at, segment.contents);
+            }
+            *found += segment.contents;
+            at += segment.contents;
+        }
+    }
+    return SOQ_OK;
+}
+
+/*
+ * Writes the octets of an OCTET STRING to the buffer, also of one in segments (X.690 8.7.3), which may be in segments again. It is a part
+ * of the kind SOQ_PART_OCTET_STRING of a message that a call by a schema has read by the same rules; its tag may be any. Of other octets
+ * SOQ_OK doesn't say that they are an OCTET STRING; nothing is read or written outside of what is passed, whatever they are.
+ *
+ * SOQ_OK: there are `*needed` octets. The rest of the buffer is unchanged.
+ * SOQ_BUFFER_TOO_SMALL: there are `*needed` octets, which is more than `capacity`. The buffer is unchanged, so a null pointer and a capacity
+ * of 0 ask for the number alone.
+ * SOQ_REFUSED: the octets aren't one encoding, or aren't in segments that are OCTET STRINGs.
+ * For each other status `*needed` is 0 and the buffer is unchanged. The buffer must not overlap the octets, which isn't tested.
+ */
+static inline soq_status soq_octet_string(soq_rule rule, const uint8_t *octets, size_t length, uint8_t *buffer, size_t capacity,
+                                          size_t *needed) {
+    soq_encoding whole;
+    soq_status status;
+    size_t found;
+    if (needed == NULL) {
+        return SOQ_NULL_POINTER;
+    }
+    *needed = 0;
+    status = buffer == NULL && capacity != 0 ? SOQ_NULL_POINTER : soq_next(rule, octets, length, &whole);
+    if (status != SOQ_OK) {
+        return status;
+    }
+    if (whole.length != length) {
+        return SOQ_REFUSED;
+    }
+    octets += whole.header;
+    found = whole.contents;
+    if (whole.constructed) {
+        status = soq_segments(rule, octets, whole.contents, NULL, &found);
+        if (status != SOQ_OK) {
+            return status;
+        }
+    }
+    *needed = found;
+    if (found > capacity) {
+        return SOQ_BUFFER_TOO_SMALL;
+    }
+    if (whole.constructed) {
+        return soq_segments(rule, octets, whole.contents, buffer, &found);
+    }
+    if (found != 0) {
+        memcpy(buffer, octets, found);
+    }
+    return SOQ_OK;
+}
 
 #ifdef __cplusplus
 }

@@ -1,6 +1,6 @@
 /*
  * Calls the functions of the library for texts and extensions: names (the examples of RFC 4514 4) and blocks of PEM, with buffers of every size, invalid
- * arguments and failing allocations. It is linked as test.c is.
+ * arguments and failing allocations; and what the header has compiled with a program. It is linked as test.c is.
  */
 #include "memory.h"
 #include "soqavise.h"
@@ -141,6 +141,134 @@ static void blocks_are_found(void) {
     ENSURE(soq_pem(NULL, 0, 0, &block, buffer, 5, &needed) == SOQ_ABSENT && soq_pem(blocks, 6, SIZE_MAX, &block, buffer, 5, &needed) == SOQ_ABSENT);
 }
 
+/* What soq_pem finds in the whole text is what it finds in one front after another, each of which has one block or none. */
+static void fronts_have_the_blocks(const char *text, size_t length) {
+    char *copy = malloc(length == 0 ? 1 : length);
+    size_t at = 0, line = 0, index = 0;
+    memcpy(copy, text, length);
+    while (at < length) {
+        uint8_t one[64], other[64];
+        soq_block block, same;
+        size_t needed, wanted, i, front = soq_pem_front(copy + at, length - at);
+        soq_status status = soq_pem(copy + at, front, 0, &block, one, sizeof one, &needed);
+        ENSURE(front > 0 && front <= length - at && soq_pem(copy + at, front, 1, &same, one, sizeof one, &wanted) == SOQ_ABSENT);
+        if (status != SOQ_ABSENT) {
+            ENSURE(soq_pem(text, length, index++, &same, other, sizeof other, &wanted) == status && needed == wanted);
+            ENSURE(same.label == at + block.label && same.label_length == block.label_length && same.line == line + block.line);
+            ENSURE(memcmp(one, other, needed) == 0);
+        }
+        for (i = 0; i < front; i++) {
+            line += copy[at + i] == '\n';
+        }
+        at += front;
+    }
+    free(copy);
+    {
+        soq_block block;
+        size_t needed;
+        ENSURE(soq_pem(text, length, index, &block, NULL, 0, &needed) == SOQ_ABSENT);
+    }
+}
+
+static void fronts_are_found(void) {
+    static const char *const pieces[] = {"-----BEGIN ", "-----END ", "-----", "X", "\n", "\r\n", " ", "AQID", "-----BEGIN X-----\n", "-----END X-----\n", "AQID\n"};
+    uint32_t random = 7;
+    int i, k;
+    ENSURE(soq_pem_front(blocks, sizeof blocks - 1) == 7 && soq_pem_front(blocks + 7, sizeof blocks - 8) == 48);
+    ENSURE(soq_pem_front("\n-----BEGIN ", 12) == 1 && soq_pem_front("\n-----BEGIN ", 11) == 11 && soq_pem_front("-----BEGIN ", 11) == 11);
+    ENSURE(soq_pem_front(NULL, 0) == 0 && soq_pem_front("\n", 1) == 1);
+    fronts_have_the_blocks(blocks, sizeof blocks - 1);
+    for (i = 0; i < 3000; i++) {
+        char text[512];
+        text[0] = 0;
+        for (k = i % 24; k > 0; k--) {
+            random = random * 1664525u + 1013904223u;
+            strcat(text, pieces[(random >> 16) % (sizeof pieces / sizeof *pieces)]);
+        }
+        fronts_have_the_blocks(text, strlen(text));
+    }
+}
+
+typedef struct boolean {
+    uint8_t octets[5];
+    size_t length;
+    soq_rule rule;
+    soq_status status;
+    int value;
+} boolean;
+
+/* X.690 8.2, 8.14 (another tag) and 11.1. */
+static const boolean booleans[] = {
+    {{0x01, 0x01, 0xFF}, 3, SOQ_DER, SOQ_OK, 1}, {{0x01, 0x01, 0x00}, 3, SOQ_DER, SOQ_OK, 0}, {{0x85, 0x01, 0xFF}, 3, SOQ_CER, SOQ_OK, 1},
+    {{0x01, 0x01, 0x05}, 3, SOQ_DER, SOQ_REFUSED, 0}, {{0x01, 0x01, 0x05}, 3, SOQ_CER, SOQ_REFUSED, 0}, {{0x01, 0x01, 0x05}, 3, SOQ_BER, SOQ_OK, 1},
+    {{0x01, 0x81, 0x01, 0x80}, 4, SOQ_BER, SOQ_OK, 1}, {{0x01, 0x81, 0x01, 0xFF}, 4, SOQ_DER, SOQ_REFUSED, 0}, {{0x01, 0x00}, 2, SOQ_BER, SOQ_REFUSED, 0},
+    {{0x01, 0x02, 0x01, 0x00}, 4, SOQ_BER, SOQ_REFUSED, 0}, {{0x01, 0x02, 0x00, 0x80}, 4, SOQ_BER, SOQ_REFUSED, 0},
+    {{0x21, 0x03, 0x01, 0x01, 0xFF}, 5, SOQ_BER, SOQ_REFUSED, 0}, {{0x01, 0x01, 0xFF, 0x00}, 4, SOQ_BER, SOQ_REFUSED, 0},
+    {{0x01, 0x01}, 2, SOQ_BER, SOQ_REFUSED, 0}, {{0x01, 0x01, 0xFF}, 3, (soq_rule)3, SOQ_UNKNOWN_RULE, 0},
+};
+
+static void booleans_are_read(void) {
+    size_t i;
+    int value = 7;
+    for (i = 0; i < sizeof booleans / sizeof *booleans; i++) {
+        const boolean *it = &booleans[i];
+        value = 7;
+        if (soq_bool(it->rule, it->octets, it->length, &value) != it->status || value != it->value) {
+            fprintf(stderr, "texts: boolean %zu: %d\n", i, value);
+            exit(1);
+        }
+    }
+    ENSURE(soq_bool(SOQ_DER, booleans[0].octets, 3, NULL) == SOQ_NULL_POINTER && soq_bool(SOQ_DER, NULL, 3, &value) == SOQ_NULL_POINTER);
+    ENSURE(soq_bool(SOQ_DER, NULL, 0, &value) == SOQ_REFUSED && value == 0);
+}
+
+typedef struct string {
+    uint8_t octets[24];
+    size_t length;
+    soq_rule rule;
+    soq_status status;
+    const char *wanted;
+} string;
+
+/* X.690 8.7: one in place, one in segments by a tag of its own, segments in segments of both forms of length, and octets that aren't one. */
+static const string strings[] = {
+    {{0x04, 0x02, 0x61, 0x62}, 4, SOQ_DER, SOQ_OK, "ab"}, {{0x80, 0x01, 0x61}, 3, SOQ_DER, SOQ_OK, "a"}, {{0x04, 0x00}, 2, SOQ_DER, SOQ_OK, ""},
+    {{0xA0, 0x80, 0x04, 0x01, 0x62, 0x24, 0x80, 0x04, 0x00, 0x04, 0x02, 0x63, 0x64, 0x00, 0x00, 0x24, 0x03, 0x04, 0x01, 0x65, 0x00, 0x00}, 22, SOQ_BER,
+     SOQ_OK, "bcde"},
+    {{0x24, 0x00}, 2, SOQ_BER, SOQ_OK, ""}, {{0x24, 0x80, 0x00, 0x00}, 4, SOQ_CER, SOQ_OK, ""}, {{0x24, 0x04, 0x04, 0x02, 0x00, 0x00}, 6, SOQ_BER, SOQ_OK, NULL},
+    {{0x24, 0x03, 0x02, 0x01, 0x61}, 5, SOQ_BER, SOQ_REFUSED, ""}, {{0x24, 0x03, 0x04, 0x02, 0x61}, 5, SOQ_BER, SOQ_REFUSED, ""},
+    {{0x24, 0x01, 0x04}, 3, SOQ_BER, SOQ_REFUSED, ""}, {{0x04, 0x01, 0x61, 0x00}, 4, SOQ_BER, SOQ_REFUSED, ""}, {{0x04, 0x02, 0x61}, 3, SOQ_BER, SOQ_REFUSED, ""},
+    {{0x04, 0x01, 0x61}, 3, (soq_rule)3, SOQ_UNKNOWN_RULE, ""},
+};
+
+static void strings_are_joined(void) {
+    size_t i, size, needed;
+    for (i = 0; i < sizeof strings / sizeof *strings; i++) {
+        const string *it = &strings[i];
+        const char *wanted = it->wanted == NULL ? "\0\0" : it->wanted;
+        size_t count = it->wanted == NULL ? 2 : strlen(wanted);
+        uint8_t *octets = malloc(it->length);
+        memcpy(octets, it->octets, it->length);
+        for (size = 0; size < count + 2; size++) {
+            uint8_t *buffer = malloc(size == 0 ? 1 : size);
+            soq_status expected = it->status == SOQ_OK && size < count ? SOQ_BUFFER_TOO_SMALL : it->status, status;
+            memset(buffer, 0xA5, size);
+            status = soq_octet_string(it->rule, octets, it->length, buffer, size, &needed);
+            if (status != expected || needed != count) {
+                fprintf(stderr, "texts: string %zu: status %d, %zu octets\n", i, (int)status, needed);
+                exit(1);
+            }
+            ENSURE(status == SOQ_OK ? memcmp(buffer, wanted, count) == 0 && (size == count || buffer[count] == 0xA5) : size == 0 || buffer[0] == 0xA5);
+            free(buffer);
+        }
+        free(octets);
+    }
+    ENSURE(soq_octet_string(SOQ_DER, strings[0].octets, 4, NULL, 0, &needed) == SOQ_BUFFER_TOO_SMALL && needed == 2);
+    ENSURE(soq_octet_string(SOQ_DER, strings[0].octets, 4, NULL, 1, &needed) == SOQ_NULL_POINTER && needed == 0);
+    ENSURE(soq_octet_string(SOQ_DER, NULL, 1, NULL, 0, &needed) == SOQ_NULL_POINTER && soq_octet_string(SOQ_DER, NULL, 0, NULL, 0, NULL) == SOQ_NULL_POINTER);
+    ENSURE(soq_octet_string(SOQ_DER, NULL, 0, NULL, 0, &needed) == SOQ_REFUSED);
+}
+
 /* basicConstraints {}, keyUsage twice: 03 02 05 A0 and 03 02 01 06 (RFC 5280 4.2.1). */
 static const uint8_t extensions[] = {0x30, 0x2B, 0x30, 0x0C, 0x06, 0x03, 0x55, 0x1D, 0x13, 0x01, 0x01, 0xFF, 0x04, 0x02, 0x30, 0x00,
                                      0x30, 0x0B, 0x06, 0x03, 0x55, 0x1D, 0x0F, 0x04, 0x04, 0x03, 0x02, 0x05, 0xA0,
@@ -226,6 +354,9 @@ int main(void) {
     memcpy(longer, smith, sizeof smith);
     names_are_written();
     blocks_are_found();
+    fronts_are_found();
+    booleans_are_read();
+    strings_are_joined();
     extensions_are_found();
     wrong_arguments_are_answered();
     refused_memory_is_answered();

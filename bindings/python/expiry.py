@@ -1,17 +1,20 @@
-"""Prints the subject of each certificate of a PEM file, and the time at which its validity ends (RFC 5280 4.1).
+"""Prints the subject of each certificate of a PEM file, the time at which its validity ends, and
+its other names, which are in the extension subjectAltName (RFC 5280 4.2.1.6).
 
-python3 expiry.py certificates.asn1 certificates.pem
+python3 expiry.py certificates.pem
 """
 import pathlib
 import sys
 
-from soqavise import Rules, Schema, Type, name_text, pem_blocks, time
+from soqavise import Rules, Schema, name_text, pem_blocks
 
-modules, file = map(pathlib.Path, sys.argv[1:])
-schema = Schema({modules.name: modules.read_text("utf-8")}, "Certificate")
-for block in pem_blocks(file.read_bytes()):
+schema, names = Schema("Certificate"), Schema("SubjectAltName")
+for block in pem_blocks(pathlib.Path(sys.argv[1]).read_bytes()):
     schema.check(block.octets)
-    subject = schema.find(block.octets, "tbsCertificate.subject")
-    end = schema.find(block.octets, "tbsCertificate.validity.notAfter")
-    print(name_text(Rules.DER, subject.whole))
-    print("valid until", time(Type.UTCTIME if end.tag_number == 23 else Type.GENTIME, Rules.DER, end.whole))
+    body = schema.loads(block.octets, native=True)["tbsCertificate"]
+    print(name_text(Rules.DER, schema.find(block.octets, "tbsCertificate.subject").whole))
+    print("valid until", body["validity"]["notAfter"].value)
+    for extension in body.get("extensions", []):
+        if extension["extnID"] == "2.5.29.17":
+            for kind, name in names.loads(extension["extnValue"], native=True):
+                print(kind, name)

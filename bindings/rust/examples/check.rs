@@ -5,7 +5,7 @@ use std::process::ExitCode;
 /// Returns the octets of the first block of PEM, or those of the file if it has none.
 fn octets_of(file: Vec<u8>) -> Vec<u8> {
     let text = std::str::from_utf8(&file).ok();
-    let block = text.and_then(|text| pem(text).ok()?.into_iter().next()?.1);
+    let block = text.and_then(|text| pem(text).next()?.octets.ok());
     block.unwrap_or(file)
 }
 

@@ -1,14 +1,14 @@
 //! BER, CER and DER (ITU-T X.690) by the functions of Soqavise, which are proved.
 //!
-//! ```no_run
+//! ```
 //! use soqavise::{check, encodings, next, Rules, Type};
 //!
 //! # fn main() -> Result<(), soqavise::Error> {
-//! # let octets: &[u8] = &[];
-//! check(Type::Certificate, octets)?; // DER throughout, except inside open types
-//! let certificate = next(Rules::Der, octets)?;
-//! for part in encodings(Rules::Der, certificate.contents) {
-//!     println!("{} octets", part?.whole.len());
+//! let octets = [0x30, 0x05, 0x02, 0x01, 0x03, 0x42, 0x00]; // an unbindRequest (RFC 4511 4.3)
+//! check(Type::Ldap, &octets)?; // DER throughout, except inside open types
+//! let message = next(Rules::Der, &octets)?;
+//! for part in encodings(Rules::Der, message.contents) {
+//!     println!("{} octets", part?.whole.len()); // 3 and 2
 //! }
 //! # Ok(())
 //! # }
@@ -16,14 +16,15 @@
 //!
 //! With a schema, values of any type of ASN.1 modules are read:
 //!
-//! ```no_run
+//! ```
 //! use soqavise::{Rules, Schema};
 //!
 //! # fn main() -> Result<(), soqavise::Error> {
-//! # let (text, octets): (&str, &[u8]) = ("", &[]);
-//! let schema = Schema::compile(&[("certificates.asn1", text)], "Certificate")?;
-//! let certificate = schema.read(Rules::Der, octets)?;
-//! println!("{:?}", certificate["tbsCertificate"]["serialNumber"].as_i64());
+//! let text = "Pairs DEFINITIONS ::= BEGIN Pair ::= SEQUENCE { number INTEGER, last BOOLEAN } END";
+//! let schema = Schema::compile(&[("pairs.asn1", text)], "Pair")?;
+//! let pair = schema.read(Rules::Der, &[0x30, 0x06, 0x02, 0x01, 0x05, 0x01, 0x01, 0xFF])?;
+//! assert_eq!(pair["number"].as_i64(), Some(5));
+//! assert_eq!(pair["last"].as_bool(), Some(true));
 //! # Ok(())
 //! # }
 //! ```
@@ -33,20 +34,38 @@
 #![warn(missing_docs)]
 
 mod extension;
+mod modules;
 mod pem;
 mod schema;
 
 pub use extension::extension;
-pub use pem::{name_text, pem};
-pub use schema::{Kind, Schema, Value};
+pub use pem::{name_text, pem, PemBlock, PemBlocks};
+pub use schema::{Kind, Located, Schema, Value, Walk};
 
 use std::error;
 use std::fmt;
+use std::iter::FusedIterator;
 
 /// The version of this crate, which is that of the library it is written for.
 pub const VERSION: &str = env!("CARGO_PKG_VERSION");
 
 /// Why a call has no result.
+///
+/// `Refused` is about the octets, or the JSON, that a call is given. All others, except `OutOfMemory`,
+/// are about what the program has: modules, the name of a type, a path, or a schema.
+///
+/// ```
+/// use soqavise::{Error, Rules, Schema};
+///
+/// let text = "Pairs DEFINITIONS ::= BEGIN Pair ::= SEQUENCE { number INTEGER, last BOOLEAN } END";
+/// let pair = Schema::compile(&[("pairs.asn1", text)], "Pair").expect("a schema");
+/// match pair.find(Rules::Der, &[0x30, 0x06, 0x02, 0x01, 0x05, 0x01, 0x01, 0xFF], "numbr") {
+///     Ok(part) => println!("{part:?}"),
+///     Err(Error::Refused { path, offset, .. }) => println!("{path} at {offset} isn't read"),
+///     Err(Error::UnknownPath { name, .. }) => assert_eq!(name, "numbr"),
+///     Err(error) => panic!("{error}"),
+/// }
+/// ```
 #[derive(Clone, Debug, PartialEq, Eq)]
 #[non_exhaustive]
 pub enum Error {
@@ -57,11 +76,49 @@ pub enum Error {
         /// The path to the part of a message or of JSON, as `tbsCertificate.validity`; empty if it is
         /// the whole, or the call doesn't say it.
         path: String,
-        /// Where the part begins that isn't read or, of a call without a schema, where octets follow a
-        /// value.
+        /// Where the part begins that isn't read, or the block of PEM; of another call without a
+        /// schema, where octets follow a value.
         offset: usize,
         /// The rules, and what is wrong.
         text: String,
+    },
+    /// Modules have faults.
+    Module {
+        /// The name of the module's text, as the call had it, of the first fault. It is empty where no
+        /// line has the fault.
+        name: String,
+        /// The line of the first fault, counted from 1, or 0.
+        line: u32,
+        /// Its column, counted from 1, or 0.
+        column: u32,
+        /// A line `NAME:LINE:COLUMN: what is wrong` for each fault.
+        text: String,
+    },
+    /// No module has the type.
+    UnknownType {
+        /// The name that the call had.
+        name: String,
+        /// What is wrong with it.
+        text: String,
+    },
+    /// No value of the type has a part at the path, or it isn't a path.
+    UnknownPath {
+        /// The path that the call had.
+        path: String,
+        /// Its first step that is wrong: `subjet` of `tbsCertificate.subjet[0]`.
+        name: String,
+        /// What is wrong with it.
+        text: String,
+    },
+    /// The octets of a schema are damaged, or those of another version of the library.
+    BadSchema {
+        /// What is wrong with them.
+        text: String,
+    },
+    /// The library that is linked doesn't take the call, as one of another version.
+    WrongCall {
+        /// The status that it returned (`soq_status` of soqavise.h).
+        status: u32,
     },
     /// An allocation failed.
     OutOfMemory,
@@ -70,7 +127,10 @@ pub enum Error {
 impl fmt::Display for Error {
     fn fmt(&self, f: &mut fmt::Formatter<'_>) -> fmt::Result {
         match self {
-            Error::Refused { text, .. } => f.write_str(text),
+            Error::Refused { text, .. } | Error::Module { text, .. } | Error::BadSchema { text } => f.write_str(text),
+            Error::UnknownType { name, text } => write!(f, "{name}: {text}"),
+            Error::UnknownPath { path, name, text } => write!(f, "{path}: {text}: {name}"),
+            Error::WrongCall { status } => write!(f, "the library doesn't take this call (soq_status {status})"),
             Error::OutOfMemory => f.write_str("out of memory"),
         }
     }
@@ -143,6 +203,13 @@ pub struct Encoding<'a> {
 }
 
 /// An instant, by its fields in UTC.
+///
+/// Its text has a fraction if it isn't 0, and a leap second is the second 60.
+///
+/// ```
+/// let time = soqavise::time(soqavise::TimeType::Utc, soqavise::Rules::Der, b"\x17\x0d361121130721Z");
+/// assert_eq!(time.map(|it| it.to_string()).as_deref(), Ok("2036-11-21 13:07:21"));
+/// ```
 #[derive(Clone, Copy, Debug, Default, PartialEq, Eq)]
 #[repr(C)]
 pub struct Time {
@@ -160,6 +227,18 @@ pub struct Time {
     pub second: u32,
     /// The nanoseconds. From 1,000,000,000 on they are in a leap second after the second 59.
     pub nanosecond: u32,
+}
+
+impl fmt::Display for Time {
+    fn fmt(&self, f: &mut fmt::Formatter<'_>) -> fmt::Result {
+        let Time { year, month, day, hour, minute, .. } = self;
+        let second = self.second + self.nanosecond / 1_000_000_000;
+        write!(f, "{year:04}-{month:02}-{day:02} {hour:02}:{minute:02}:{second:02}")?;
+        match self.nanosecond % 1_000_000_000 {
+            0 => Ok(()),
+            fraction => f.write_str(format!(".{fraction:09}").trim_end_matches('0')),
+        }
+    }
 }
 
 /// An instant, as seconds since 1970.
@@ -255,8 +334,8 @@ fn answer(status: u32, text: &str) -> Result<(), Error> {
     match status {
         OK => Ok(()),
         OUT_OF_MEMORY => Err(Error::OutOfMemory),
-        UNKNOWN_TYPE => Err(refused("not a type that the call takes")),
-        _ => Err(refused(text)),
+        REFUSED => Err(refused(text)),
+        status => Err(Error::WrongCall { status }),
     }
 }
 
@@ -274,7 +353,7 @@ fn refused(text: &str) -> Error {
 fn written(
     capacity: usize,
     text: &str,
-    call: impl Fn(&mut [u8], &mut usize) -> u32,
+    mut call: impl FnMut(&mut [u8], &mut usize) -> u32,
 ) -> Result<Vec<u8>, Error> {
     let mut buffer = vec![0; capacity];
     loop {
@@ -307,6 +386,12 @@ fn time_of_instant(number: u32, rules: Rules, octets: &[u8]) -> Option<Time> {
 
 /// Returns the length of the one whole encoding at the front of the octets, of any type.
 ///
+/// ```
+/// use soqavise::{skip, Rules};
+///
+/// assert_eq!(skip(Rules::Ber, &[0x30, 0x80, 0x05, 0x00, 0x00, 0x00, 0x05]), Ok(6));
+/// ```
+///
 /// # Errors
 /// `Refused` if the octets don't begin with one.
 pub fn skip(rules: Rules, octets: &[u8]) -> Result<usize, Error> {
@@ -318,7 +403,14 @@ pub fn skip(rules: Rules, octets: &[u8]) -> Result<usize, Error> {
 }
 
 /// Checks that the octets are the one DER encoding of a value of the type. Open types aren't looked
-/// into.
+/// into: the parameters of an algorithm, the values in a name, the filter of a search of LDAP.
+///
+/// ```
+/// use soqavise::{check, Error, Type};
+///
+/// assert_eq!(check(Type::Bool, &[0x01, 0x01, 0xFF]), Ok(()));
+/// assert!(matches!(check(Type::Bool, &[0x01, 0x01, 0x05]), Err(Error::Refused { .. }))); // X.690 11.1
+/// ```
 ///
 /// # Errors
 /// `Refused` with the kind of the error and its text if they aren't.
@@ -332,6 +424,12 @@ pub fn check(of: Type, octets: &[u8]) -> Result<(), Error> {
 }
 
 /// Returns the DER octets of the value that all of the octets encode.
+///
+/// ```
+/// use soqavise::{normalise, Rules, Type};
+///
+/// assert_eq!(normalise(Type::Bool, Rules::Ber, &[0x01, 0x01, 0x05]), Ok(vec![0x01, 0x01, 0xFF]));
+/// ```
 ///
 /// # Errors
 /// `Refused` if they aren't one value of the type under these rules, or it has no DER encoding.
@@ -392,19 +490,45 @@ pub fn next(rules: Rules, octets: &[u8]) -> Result<Encoding<'_>, Error> {
 
 /// Returns the encodings of which the octets are made, such as those in constructed contents. After
 /// an error there are no more.
-pub fn encodings(rules: Rules, octets: &[u8]) -> impl Iterator<Item = Result<Encoding<'_>, Error>> {
-    let mut left = octets;
-    std::iter::from_fn(move || {
-        if left.is_empty() {
-            return None;
-        }
-        let found = next(rules, left);
-        left = found.as_ref().map_or(&[], |it| it.rest);
-        Some(found)
-    })
+///
+/// ```
+/// use soqavise::{encodings, Error, Rules};
+///
+/// let octets = [0x01, 0x01, 0xFF, 0x05, 0x00];
+/// let tags: Result<Vec<u32>, Error> = encodings(Rules::Der, &octets).map(|it| Ok(it?.tag_number)).collect();
+/// assert_eq!(tags, Ok(vec![1, 5]));
+/// ```
+pub fn encodings(rules: Rules, octets: &[u8]) -> Encodings<'_> {
+    Encodings { rules, left: octets }
 }
 
+/// The iterator that [`encodings`] returns.
+#[derive(Clone, Debug)]
+pub struct Encodings<'a> {
+    rules: Rules,
+    left: &'a [u8],
+}
+
+impl<'a> Iterator for Encodings<'a> {
+    type Item = Result<Encoding<'a>, Error>;
+
+    fn next(&mut self) -> Option<Self::Item> {
+        if self.left.is_empty() {
+            return None;
+        }
+        let found = next(self.rules, self.left);
+        self.left = found.as_ref().map_or(&[], |it| it.rest);
+        Some(found)
+    }
+}
+
+impl FusedIterator for Encodings<'_> {}
+
 /// Returns the number of the INTEGER that all of the octets are. Its tag may be any.
+///
+/// ```
+/// assert_eq!(soqavise::integer(soqavise::Rules::Der, &[0x02, 0x02, 0x01, 0x00]), Ok(256));
+/// ```
 ///
 /// # Errors
 /// `Refused` if they aren't one, or 64 bits don't hold its number.
@@ -430,6 +554,11 @@ pub fn integer_octets(rules: Rules, octets: &[u8]) -> Result<Vec<u8>, Error> {
 }
 
 /// Returns the OBJECT IDENTIFIER that all of the octets are, as `1.2.840`. Its tag may be any.
+///
+/// ```
+/// let text = soqavise::identifier(soqavise::Rules::Der, &[0x06, 0x03, 0x55, 0x1D, 0x11]);
+/// assert_eq!(text.as_deref(), Ok("2.5.29.17"));
+/// ```
 ///
 /// # Errors
 /// `Refused` if they aren't one.

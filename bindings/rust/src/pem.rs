@@ -1,6 +1,7 @@
 //! Blocks of PEM (RFC 7468), and names as text (RFC 4514).
 
-use crate::{answer, text_of, written, Error, Rules, ABSENT, BUFFER_TOO_SMALL, REFUSED};
+use crate::{text_of, written, Error, Rules, ABSENT};
+use std::iter::FusedIterator;
 
 /// Where a block is: `soq_block` of soqavise.h.
 #[derive(Default)]
@@ -31,35 +32,98 @@ unsafe extern "C" {
     ) -> u32;
 }
 
-/// Returns the blocks of a text, each with its label and its octets; other lines before and between
-/// them are skipped. A block whose lines aren't base64, or that has no last line, has `None`.
+/// A block of PEM.
+#[derive(Clone, Debug, PartialEq, Eq)]
+pub struct PemBlock<'a> {
+    /// What is between `-----BEGIN ` and the dashes.
+    pub label: &'a str,
+    /// The number of its first line, counted from 1.
+    pub line: usize,
+    /// The octets that its lines encode; `Refused` if they aren't base64, or it has no last line.
+    pub octets: Result<Vec<u8>, Error>,
+}
+
+/// Returns the blocks of a text. Other lines before and between them are skipped. The time grows with
+/// the length of the text, also where it has many blocks.
 ///
-/// # Errors
-/// `OutOfMemory`.
-pub fn pem(text: &str) -> Result<Vec<(&str, Option<Vec<u8>>)>, Error> {
-    let mut blocks = Vec::new();
-    let mut buffer = vec![0; text.len()];
-    loop {
-        let (mut place, mut needed) = (Place::default(), 0);
-        let (at, length) = (text.as_ptr(), text.len());
-        let status = unsafe {
-            let (to, capacity) = (buffer.as_mut_ptr(), buffer.len());
-            soq_proved_pem(at, length, blocks.len(), &mut place, to, capacity, &mut needed)
-        };
-        let contents = match status {
-            ABSENT => return Ok(blocks),
-            REFUSED => None,
-            BUFFER_TOO_SMALL => {
-                buffer.resize(needed, 0);
-                continue;
-            }
-            status => {
-                answer(status, "")?;
-                Some(buffer[..needed].to_vec())
-            }
-        };
-        blocks.push((&text[place.label..][..place.label_length], contents));
+/// ```
+/// use soqavise::pem;
+///
+/// # fn main() -> Result<(), soqavise::Error> {
+/// let text = "-----BEGIN X-----\nAQID\n-----END X-----\n-----BEGIN Y-----\nBA==\n-----END Y-----\n";
+/// for block in pem(text) {
+///     println!("{}: {} octets", block.label, block.octets?.len()); // X: 3 octets, Y: 1 octets
+/// }
+/// assert_eq!(pem(text).find(|it| it.label == "Y").map(|it| it.octets), Some(Ok(vec![4])));
+/// # Ok(())
+/// # }
+/// ```
+pub fn pem(text: &str) -> PemBlocks<'_> {
+    PemBlocks { text, at: 0, line: 1 }
+}
+
+/// The iterator that [`pem`] returns.
+#[derive(Clone, Debug)]
+pub struct PemBlocks<'a> {
+    text: &'a str,
+    /// Where the line begins that isn't read yet, and its number.
+    at: usize,
+    line: usize,
+}
+
+impl<'a> PemBlocks<'a> {
+    /// Takes what is up to the next line that may be the first of a block. No block goes on beyond
+    /// such a line, so `soq_proved_pem`, which decodes all blocks of its text, is called with one.
+    fn piece(&mut self) -> &'a str {
+        let rest = &self.text[self.at..];
+        let piece = rest.find("\n-----BEGIN ").map_or(rest, |end| &rest[..=end]);
+        self.at += piece.len();
+        self.line += piece.matches('\n').count();
+        piece
     }
+}
+
+impl<'a> Iterator for PemBlocks<'a> {
+    type Item = PemBlock<'a>;
+
+    fn next(&mut self) -> Option<PemBlock<'a>> {
+        while self.at < self.text.len() {
+            let (offset, line) = (self.at, self.line);
+            if let Some((label, octets)) = first_block(self.piece()) {
+                let octets = octets.map_err(|error| error.of_block(label, line, offset));
+                return Some(PemBlock { label, line, octets });
+            }
+        }
+        None
+    }
+}
+
+impl FusedIterator for PemBlocks<'_> {}
+
+impl Error {
+    /// Adds where a block of PEM is that is refused.
+    fn of_block(self, label: &str, line: usize, offset: usize) -> Error {
+        match self {
+            Error::Refused { kind, path, text, .. } => {
+                let text = format!("line {line}: the block {label:?} {text}");
+                Error::Refused { kind, path, offset, text }
+            }
+            other => other,
+        }
+    }
+}
+
+/// Returns the label and the octets of the first block of a text, if it has one.
+fn first_block(text: &str) -> Option<(&str, Result<Vec<u8>, Error>)> {
+    let (mut place, mut is_absent) = (Place::default(), false);
+    let octets = written(text.len(), "has no last line, or isn't base64", |buffer, needed| {
+        let (at, length) = (text.as_ptr(), text.len());
+        let (to, capacity) = (buffer.as_mut_ptr(), buffer.len());
+        let status = unsafe { soq_proved_pem(at, length, 0, &mut place, to, capacity, needed) };
+        is_absent = status == ABSENT;
+        status
+    });
+    (!is_absent).then(|| (&text[place.label..][..place.label_length], octets))
 }
 
 /// Returns the text of the Name (RFC 5280 4.1.2.4) that all of the octets are, as RFC 4514 has it:

@@ -62,4 +62,13 @@ fn reads_values() {
     assert_eq!(time(TimeType::Utc, Rules::Der, &octets("170D3236313132343132303030305A")), Ok(noon)); // 11.8
     assert_eq!(time(TimeType::Generalized, Rules::Der, &octets("180F32303236313132343132303030305A")), Ok(noon)); // 11.7
     assert!(is_refused(time(TimeType::Utc, Rules::Der, &octets("0101FF"))));
+    // 11.7 and X.680 46: a fraction of a second, and a leap second.
+    for (text, shown) in [
+        ("19851106210627.3Z", "1985-11-06 21:06:27.3"),
+        ("20161231235960Z", "2016-12-31 23:59:60"),
+        ("00010101000000Z", "0001-01-01 00:00:00"),
+    ] {
+        let octets = [&[24, text.len() as u8], text.as_bytes()].concat();
+        assert_eq!(time(TimeType::Generalized, Rules::Der, &octets).map(|it| it.to_string()).as_deref(), Ok(shown));
+    }
 }

@@ -1,3 +1,4 @@
+// Written by `soqavise generate` from the ASN.1 of AddressBook: change that, and write it again.
 //! `Availability ::= ENUMERATED { free(0), busy(1), ... }`
 use rasn::prelude::*;
 

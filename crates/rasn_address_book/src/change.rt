@@ -1,3 +1,4 @@
+// Written by `soqavise generate` from the ASN.1 of AddressBook: change that, and write it again.
 //! `Change ::= CHOICE`
 use crate::{Contact, Relation, Roles};
 use rasn::parts::OneOf::{Other, This};

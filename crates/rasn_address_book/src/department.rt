@@ -1,3 +1,4 @@
+// Written by `soqavise generate` from the ASN.1 of AddressBook: change that, and write it again.
 //! `Department ::= SEQUENCE`
 use crate::{Contact, OpenSequence};
 use rasn::prelude::*;

@@ -1,3 +1,4 @@
+// Written by `soqavise generate` from the ASN.1 of AddressBook: change that, and write it again.
 //! `Elevation ::= INTEGER (-450..MAX)`
 use rasn::prelude::*;
 

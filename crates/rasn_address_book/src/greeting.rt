@@ -1,3 +1,4 @@
+// Written by `soqavise generate` from the ASN.1 of AddressBook: change that, and write it again.
 //! `Greeting ::= SEQUENCE`
 use rasn::prelude::*;
 

@@ -1,4 +1,5 @@
-//! Types of an ASN.1 module.
+// Written by `soqavise generate` from the ASN.1 of AddressBook: change that, and write it again.
+//! Types of the ASN.1 of AddressBook.
 #![tactic(auto)]
 
 mod availability;

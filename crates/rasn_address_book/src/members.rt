@@ -1,3 +1,4 @@
+// Written by `soqavise generate` from the ASN.1 of AddressBook: change that, and write it again.
 //! `Members ::= SET (SIZE (1..MAX)) OF Contact`
 use crate::Contact;
 use rasn::prelude::*;

@@ -1,3 +1,4 @@
+// Written by `soqavise generate` from the ASN.1 of AddressBook: change that, and write it again.
 //! `Person ::= SEQUENCE`
 use crate::{Contact, Percent, PersonHome, PersonId, Relation, Team};
 use rasn::prelude::*;

@@ -1,3 +1,4 @@
+// Written by `soqavise generate` from the ASN.1 of AddressBook: change that, and write it again.
 //! `Relation ::= ENUMERATED { friend(0), colleague(5), family(-1) }`
 use rasn::prelude::*;
 

@@ -1,3 +1,4 @@
+// Written by `soqavise generate` from the ASN.1 of AddressBook: change that, and write it again.
 //! `Rights ::= BIT STRING { read(0), write(3) }`
 use rasn::prelude::*;
 

@@ -1,3 +1,4 @@
+// Written by `soqavise generate` from the ASN.1 of AddressBook: change that, and write it again.
 //! The types as data, for what reads and writes by a schema.
 use rasn_schema::constants::prelude::*;
 

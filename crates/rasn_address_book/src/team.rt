@@ -1,3 +1,4 @@
+// Written by `soqavise generate` from the ASN.1 of AddressBook: change that, and write it again.
 //! `Team ::= [APPLICATION 7] IMPLICIT SET`
 use crate::{Availability, Title};
 use rasn::prelude::*;

@@ -1,3 +1,4 @@
+// Written by `soqavise generate` from the ASN.1 of AddressBook: change that, and write it again.
 //! `Title ::= UTF8String (SIZE (1..64))`
 use rasn::prelude::*;
 

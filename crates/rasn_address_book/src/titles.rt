@@ -1,3 +1,4 @@
+// Written by `soqavise generate` from the ASN.1 of AddressBook: change that, and write it again.
 //! `Titles ::= SEQUENCE OF Title`
 use crate::Title;
 use rasn::prelude::*;

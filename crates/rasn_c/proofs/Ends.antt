@@ -1,5 +1,5 @@
 -- The ends of calls that convert.
-use Rattle.std.proofs.Common.{ℕ, ◌≡◌, ◌↔◌, ◌++◌, ◌∷◌, [], inl, inr, Bool, false, true≢false, List, Result, Ok as Made, Err, MatchResult, sym, ◌∙◌, subst}
+use Rattle.std.proofs.Common.{ℕ, ◌≡◌, ◌↔◌, ◌++◌, ◌∷◌, [], inl, inr, Bool, false, true≢false, List, Result, Ok as Made, Err, MatchResult, refl, sym, ◌∙◌, subst}
 use Rattle.std.specs.Prelude.{Vec, IsTrue}
 use Rattle.std.specs.Global.{Global}
 use Rattle.rasn_types.specs.declared.types.codec.Codec.{Codec}
@@ -10,7 +10,7 @@ use Rattle.rasn.specs.declared.normal.NormaliseError.{NormaliseError}
 use Rattle.rasn.specs.Normal.{IsNoNormal, IsOutOfMemoryAlone}
 use Rattle.rasn.proofs.Normalised.{no_normal}
 use Rattle.rasn_c.specs.Schemas.{IsAsked}
-use Rattle.rasn_c.specs.Reasons.{IsPlain, IsStatusOr}
+use Rattle.rasn_c.specs.Reasons.{IsPlaced, IsPlain, IsStatusOr, IsStopAt}
 use Rattle.rasn_c.specs.Checking.{IsUnreadBy}
 use Rattle.rasn_c.specs.Converting.{IsJson, IsNoJsonBy, IsNoNormalBy, IsNotNormalised}
 use Rattle.rasn_c.specs.declared.reasons.CallStop.{CallStop}
@@ -21,6 +21,25 @@ use Rattle.rasn_c.specs.declared.status.Status.TheVariants.{Ok, Refused, OutOfMe
 pub by_status : (P : Status → Type 0) (stop : CallStop) (status : Status) → IsStatusOr status stop → P status → P OutOfMemory → P stop.status
 by_status P stop status (inl e) p m = subst P (sym e) p
 by_status P stop status (inr e) p m = subst P (sym e) m
+
+-- What holds of a refusal that is placed, and of a failed allocation, holds of an end for a fault at this place.
+pub ended_at : (P : Status → Type 0) (line column : ℕ) (stop : CallStop) → IsStopAt line column stop stop.status → (stop.status ≡ Refused → IsPlaced line column stop → P Refused) → P OutOfMemory → P stop.status
+ended_at P line column stop h r m = by stop.status refl h
+  where
+    by : (status : Status) → stop.status ≡ status → IsStopAt line column stop status → P status
+    by Refused e p = r e p
+    by OutOfMemory e p = m
+    by Ok e p = absurd p
+    by BufferTooSmall e p = absurd p
+    by UnknownType e p = absurd p
+    by UnknownRule e p = absurd p
+    by BadSchema e p = absurd p
+    by UnknownPath e p = absurd p
+    by Absent e p = absurd p
+
+-- A refusal isn't a failed allocation.
+pub no_memory : (M : Type 0) (status : Status) → (M → status ≡ OutOfMemory) → status ≡ Refused → M → ⊥
+no_memory M status h e memory = let both : Refused ≡ OutOfMemory = sym e ∙ h memory in cc
 
 pub json_unread : (octets : List ℕ) (number : ℕ) (message : List ℕ) (stop : CallStop) (schema : Schema) (root : TypeId) (rule : Codec) → IsAsked octets number schema root rule → (status : Status) → IsUnreadBy rule schema root message stop status → IsNoJsonBy octets number message stop status
 json_unread octets number message stop schema root rule a Refused h = record {

@@ -9,6 +9,7 @@ pub mod Found
 pub mod NoStrings
 pub mod Ends
 pub mod Rows
+pub mod PartNames
 pub mod Compiled
 pub mod Placed
 pub mod FirstWith

@@ -1,5 +1,5 @@
 -- Rows of parts that are gone over in turn.
-use Rattle.std.proofs.Common.{ℕ, ◌≡◌, ◌⊎◌, inl, inr, ◌+◌, ◌≤◌, ◌++◌, ◌∷◌, [], List, length, drop, get_or, Some, append_assoc, sym, ap, ◌∙◌, subst}
+use Rattle.std.proofs.Common.{ℕ, ◌≡◌, ◌⊎◌, inl, inr, ◌+◌, ◌≤◌, ◌++◌, ◌∷◌, [], List, length, length-append, drop, get_or, Some, append_assoc, refl, sym, ap, ◌∙◌, subst}
 use Rattle.std.specs.Prelude.{slice_get, Vec}
 use Rattle.std.specs.Global.{Global}
 use Rattle.std.proofs.lemmas.List.{append-nil, drop_more, drop_all}
@@ -14,11 +14,11 @@ use Rattle.rasn_dynamic.specs.Faults.{IsLocated}
 use Rattle.rasn_dynamic.specs.declared.message.MessageParts.{MessageParts}
 use Rattle.rasn_dynamic.specs.declared.part.Part.{Part}
 use Rattle.rasn_dynamic.specs.declared.span.Span.{Span}
-use Rattle.rasn_dynamic.specs.Walk.{IsNextOf}
+use Rattle.rasn_dynamic.specs.Walk.{IsNextOf, path_after}
 use Rattle.rasn_c.specs.Extents.{IsExtentOf}
 use Rattle.rasn_c.specs.Schemas.{IsAsked}
 use Rattle.rasn_c.specs.Reasons.{IsStopBy}
-use Rattle.rasn_c.specs.Listing.{IsRowOf, AreRows, IsNoListingBy}
+use Rattle.rasn_c.specs.Listing.{IsRowOf, IsNameOn, IsNamePlaced, AreRows, IsNoListingBy, ended}
 use Rattle.rasn_c.specs.declared.listing.ListedPart.{ListedPart}
 use Rattle.rasn_c.specs.declared.reasons.CallStop.{CallStop}
 use Rattle.rasn_c.specs.declared.status.Status.{Status}
@@ -27,21 +27,30 @@ use Rattle.rasn_c.specs.declared.status.Status.TheVariants.{Ok, Refused, OutOfMe
 drop_at : {X : Type 0} (xs : List X) (i : ℕ) (x : X) → slice_get xs i ≡ Some x → drop i xs ≡ x ∷ drop (i + 1) xs
 drop_at xs i x e = drop_more xs i x (slice_get_within xs i x e) ∙ ap (λ z. z ∷ drop (i + 1) xs) (get_or_from_slice_get xs i x x e)
 
--- What the rows of the parts from the next one on would complete.
-abbrev pub Completes : List «Type» → List ℕ → List Span → ℕ → List ListedPart → Type 0
-Completes types input list i rows = (rest : List ListedPart) → AreRows types input (drop i list) rest → AreRows types input list (rows ++ rest)
+-- What the rows and the names of the parts from the next one on would complete.
+abbrev pub Completes : List «Type» → ℕ → List ℕ → List Span → ℕ → List ℕ → List ListedPart → List ℕ → Type 0
+Completes types root input list i path rows names =
+    (rest : List ListedPart) (more : List ℕ) → AreRows types root input path (length names) (drop i list) rest more → AreRows types root input [] 0 list (rows ++ rest) (names ++ more)
 
-pub none_yet : (types : List «Type») (input : List ℕ) (list : List Span) (i : ℕ) (rows : List ListedPart) → i ≡ 0 → rows ≡ [] → Completes types input list i rows
-none_yet types input list i rows z e = subst (λ k. Completes types input list k rows) (sym z) (subst (Completes types input list 0) (sym e) (λ rest h. h))
+pub none_yet : (types : List «Type») (root : ℕ) (input : List ℕ) (list : List Span) (i : ℕ) (path : List ℕ) (rows : List ListedPart) (names : List ℕ) → i ≡ 0 → path ≡ [] → rows ≡ [] → names ≡ [] → Completes types root input list i path rows names
+none_yet types root input list i path rows names z p e n =
+    subst (λ k. Completes types root input list k path rows names) (sym z) (subst (λ q. Completes types root input list 0 q rows names) (sym p)
+    (subst (λ l. Completes types root input list 0 [] l names) (sym e) (subst (Completes types root input list 0 [] []) (sym n) (λ rest more h. h))))
 
-pub one_more : (types : List «Type») (input : List ℕ) (list : List Span) (rows : List ListedPart) (i : ℕ) (e : Span) (r : ListedPart) → Some e ≡ slice_get list i → IsRowOf types input e r → Completes types input list i rows → Completes types input list (i + 1) (rows ++ r ∷ [])
+pub one_more : (types : List «Type») (root : ℕ) (input : List ℕ) (list : List Span) (path : List ℕ) (rows : List ListedPart) (names name : List ℕ) (i : ℕ) (e : Span) (r : ListedPart) → Some e ≡ slice_get list i → IsRowOf types input e r
+    → IsNameOn types root (path_after path e) name → IsNamePlaced (length names) name r → Completes types root input list i path rows names → Completes types root input list (i + 1) (path_after path e) (rows ++ r ∷ []) (names ++ ended name)
 unfolding AreRows
-one_more types input list rows i e r s row c rest h = subst (AreRows types input list) (sym (append_assoc rows (r ∷ []) rest)) (c (r ∷ rest) (subst (λ z. AreRows types input z (r ∷ rest)) (sym (drop_at list i e (sym s))) (row, h)))
+one_more types root input list path rows names name i e r s row named placed c rest more h =
+    let below : AreRows types root input (path_after path e) (length names + length (ended name)) (drop (i + 1) list) rest more = subst (λ z. AreRows types root input (path_after path e) z (drop (i + 1) list) rest more) (length-append names (ended name)) h in
+    let here : AreRows types root input path (length names) (drop i list) (r ∷ rest) (ended name ++ more) = subst (λ z. AreRows types root input path (length names) z (r ∷ rest) (ended name ++ more)) (sym (drop_at list i e (sym s))) (row, name, named, placed, more, refl, below) in
+    subst (λ z. AreRows types root input [] 0 list z ((names ++ ended name) ++ more)) (sym (append_assoc rows (r ∷ []) rest))
+    (subst (AreRows types root input [] 0 list (rows ++ r ∷ rest)) (sym (append_assoc names (ended name) more)) (c (r ∷ rest) (ended name ++ more) here))
 
 -- The row of the part to which the walk goes on.
-pub go_on : (types : List «Type») (old new : MessageParts) (p : Part) (s : Span) (rows more : List ListedPart) (r : ListedPart) → IsNextOf old (Some p) new → new.list ≡ old.list → new.input.now ≡ old.input.now → s ≡ get_or old.list.items old.next s
-    → IsExtentOf types p r.part → r.depth ≡ s.depth → r.index ≡ s.index → more ≡ rows ++ r ∷ [] → Completes types old.input.now old.list.items old.next rows → Completes types new.input.now new.list.items new.next more
-go_on types old new p s rows more r n list input at extent depth index m c =
+pub go_on : (types : List «Type») (root : ℕ) (old new : MessageParts) (p : Part) (s : Span) (rows more : List ListedPart) (r : ListedPart) (names longer name : List ℕ) → IsNextOf old (Some p) new → new.list ≡ old.list → new.input.now ≡ old.input.now → s ≡ get_or old.list.items old.next s
+    → IsExtentOf types p r.part → r.depth ≡ s.depth → r.index ≡ s.index → more ≡ rows ++ r ∷ [] → IsNameOn types root new.path.items name → IsNamePlaced (length names) name r → longer ≡ names ++ ended name
+    → Completes types root old.input.now old.list.items old.next old.path.items rows names → Completes types root new.input.now new.list.items new.next new.path.items more longer
+go_on types root old new p s rows more r names longer name n list input at extent depth index m named placed l c =
     let same : s ≡ n.0 = at ∙ get_or_from_slice_get old.list.items old.next n.0 s (sym n.1) in
     let row : IsRowOf types old.input.now n.0 r = record {
       part = p;
@@ -53,13 +62,21 @@ go_on types old new p s rows more r n list input at extent depth index m c =
       depth = depth ∙ ap (λ (z : Span). z.depth) same;
       index = index ∙ ap {A = Span} (λ z. z.index) same;
     } in
-    let here : Completes types old.input.now old.list.items (old.next + 1) (rows ++ r ∷ []) = one_more types old.input.now old.list.items rows old.next n.0 r n.1 row c in
-    let there : Completes types old.input.now old.list.items new.next more = subst (λ z. Completes types old.input.now old.list.items z more) (sym n.6) (subst (Completes types old.input.now old.list.items (old.next + 1)) (sym m) here) in
-    subst (λ z. Completes types z new.list.items new.next more) (sym input) (subst (λ (z : Vec Span Global). Completes types old.input.now z.items new.next more) (sym list) there)
+    let path : new.path.items ≡ path_after old.path.items n.0 = n.7 in
+    let here : Completes types root old.input.now old.list.items (old.next + 1) (path_after old.path.items n.0) (rows ++ r ∷ []) (names ++ ended name) =
+    one_more types root old.input.now old.list.items old.path.items rows names name old.next n.0 r n.1 row (subst (λ z. IsNameOn types root z name) path named) placed c in
+    let moved : Completes types root old.input.now old.list.items new.next new.path.items (rows ++ r ∷ []) (names ++ ended name) =
+    subst (λ z. Completes types root old.input.now old.list.items z new.path.items (rows ++ r ∷ []) (names ++ ended name)) (sym n.6)
+    (subst (λ z. Completes types root old.input.now old.list.items (old.next + 1) z (rows ++ r ∷ []) (names ++ ended name)) (sym path) here) in
+    let there : Completes types root old.input.now old.list.items new.next new.path.items more longer =
+    subst (λ z. Completes types root old.input.now old.list.items new.next new.path.items z longer) (sym m) (subst (Completes types root old.input.now old.list.items new.next new.path.items (rows ++ r ∷ [])) (sym l) moved) in
+    subst (λ z. Completes types root z new.list.items new.next new.path.items more longer) (sym input) (subst (λ (z : Vec Span Global). Completes types root old.input.now z.items new.next new.path.items more longer) (sym list) there)
 
-pub all_rows : (types : List «Type») (input : List ℕ) (list : List Span) (rows : List ListedPart) (i : ℕ) → length list ≤ i → Completes types input list i rows → AreRows types input list rows
+pub all_rows : (types : List «Type») (root : ℕ) (input : List ℕ) (list : List Span) (path : List ℕ) (rows : List ListedPart) (names : List ℕ) (i : ℕ) → length list ≤ i → Completes types root input list i path rows names → AreRows types root input [] 0 list rows names
 unfolding AreRows
-all_rows types input list rows i h c = subst (AreRows types input list) (append-nil rows) (c [] (subst (λ z. AreRows types input z []) (sym (drop_all i list h)) tt))
+all_rows types root input list path rows names i h c =
+    let none : AreRows types root input path (length names) (drop i list) [] [] = subst (λ z. AreRows types root input path (length names) z [] []) (sym (drop_all i list h)) refl in
+    subst (λ z. AreRows types root input [] 0 list z names) (append-nil rows) (subst (AreRows types root input [] 0 list (rows ++ [])) (append-nil names) (c [] [] none))
 
 -- A message whose parts aren't listed.
 pub unlisted : (octets : List ℕ) (number : ℕ) (message : List ℕ) (stop : CallStop) (schema : Schema) (root : TypeId) (rule : Codec) (refusal : Refusal) → IsAsked octets number schema root rule

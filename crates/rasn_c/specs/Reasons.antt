@@ -25,6 +25,20 @@ IsPlain status stop = (stop.status ≡ status) × (stop.reason ≡ no_reason) ×
 abbrev pub IsStatusOr : Status → CallStop → Type 0
 IsStatusOr status stop = (stop.status ≡ status) ⊎ (stop.status ≡ OutOfMemory)
 
+-- The reason has this place in a text, and the length of its own text.
+pub record IsPlaced (line column : ℕ) (stop : CallStop) : Type 0 where
+  pub kind : stop.reason.kind ≡ 0
+  pub offset : stop.reason.offset ≡ 0
+  pub line_is : stop.reason.line ≡ line
+  pub column_is : stop.reason.column ≡ column
+  pub text_length : stop.reason.text_length ≡ length (string_bytes stop.text)
+
+-- The end for a fault at this place, with a status: its reason, or a failed allocation.
+abbrev pub IsStopAt : ℕ → ℕ → CallStop → Status → Type 0
+IsStopAt line column stop Refused = IsPlaced line column stop
+IsStopAt line column stop OutOfMemory = Unit {0}
+IsStopAt line column stop _ = ⊥
+
 -- The text is that of the refusal, after the names on the way from the type and the indices on the way inside an open type. So many octets precede the refusal's own.
 pub record IsNamedText (schema : Schema) (root : TypeId) (inner : List ℕ) (refusal : Refusal) (text : List ℕ) (path_length : ℕ) : Type 0 where
   pub shown : shown_way refusal.is_cut (way_text schema.types.items inner true root.0 refusal.steps.items) (shown_refusal refusal) ≡ Some text

@@ -1,15 +1,15 @@
 //! The schema of a type of modules.
-ghost use Rattle.std.specs.Prelude.{MatchOption, MatchResult};
+ghost use Rattle.std.specs.Prelude.{◌≡◌, MatchOption, MatchResult, option_copied};
+ghost use Rattle.rasn_types.specs.Truth.{IsWhether};
 ghost use Rattle.rasn_schema_octets.specs.Octets.{IsSchemaOctets};
 ghost use Rattle.rasn_c.specs.Status.{IsNumberOf};
-ghost use Rattle.rasn_c.specs.declared.status.Status.TheVariants.{Refused};
-ghost use Rattle.rasn_c.specs.Reasons.{IsStatusOr};
-ghost use Rattle.rasn_c.specs.Compiling.{AnswersCompile, AreTexts, AreNoTexts, IsText, IsCompiled, IsNotCompiled, IsSchemaOf, IsNoSchema, IsNameOf};
+ghost use Rattle.rasn_c.specs.Reasons.{IsStopAt};
+ghost use Rattle.rasn_c.specs.Compiling.{AnswersCompile, AreNoTexts, AreSources, AreTexts, AssignsType, HasTypeCalled, HasNoTypeCalled, IsCompiled, IsFirstWith, IsNameOf, IsNoSchema, IsNotCompiled, IsSchemaOf, IsText, IsTypeCalled, source_parts, text_parts};
 
 use crate::buffers::deliver;
 use crate::reasons::{CallStop, NO_REASON, Reason, report, stop_of, without_memory};
 use crate::status::Status;
-use rasn_compiler::{Assigned, Fault, Module, Modules, Resolved, Source, Stop};
+use rasn_compiler::{Assigned, Assignment, Fault, Module, Modules, Resolved, Source, Stop};
 use rasn_schema_octets::{WriteFault, write};
 use std::alloc::{AllocError, Global};
 use std::str;
@@ -43,7 +43,7 @@ pub extern "C" fn soq_proved_compile(
 
 /// Returns the octets of the schema of a type of these modules.
 fn schema_octets(alloc: Global, texts: &[Texts<'_>], name: &[u8]) -> Result<Vec<u8>, CallStop>
-    ensures { MatchResult result (λ v. IsCompiled texts.now name.now v.items) (λ stop. IsNotCompiled texts.now name.now stop.status) }
+    ensures { MatchResult result (λ v. IsCompiled texts.now name.now v.items) (λ stop. IsNotCompiled texts.now name.now stop stop.status) }
 {
     let sources = match sources_of(alloc, texts) {
         Ok(sources) => sources,
@@ -65,14 +65,14 @@ fn schema_octets(alloc: Global, texts: &[Texts<'_>], name: &[u8]) -> Result<Vec<
 
 /// Returns the octets of the schema of a type of these modules, which have no faults.
 fn schema_of(alloc: Global, read: &Modules<'_>, name: &str) -> Result<Vec<u8>, CallStop>
-    ensures { MatchResult result (λ v. IsSchemaOf name.now v.items) (λ stop. IsNoSchema stop.status) }
+    ensures { MatchResult result (λ v. IsSchemaOf read.now.modules.items name.now v.items) (λ stop. IsNoSchema read.now.modules.items name.now stop stop.status) }
 {
-    let (module, type_name) = names_in(name);
-    let Some(module) = module_of(read, module, type_name) else {
+    let (module_name, type_name) = names_in(name);
+    let Some(module) = first_with(read.modules.as_slice(), module_name, type_name) else {
         let text = "no module has a type of this name";
         return Err(stop_of(alloc, Status::UnknownType, text));
     };
-    match read.schema(alloc, module, type_name) {
+    match read.schema(alloc, module.name, type_name) {
         Ok(resolved) => octets_of(alloc, &resolved),
         Err(Stop::OutOfMemory) => Err(CallStop::plain(alloc, Status::OutOfMemory)),
         Err(Stop::Fault(fault)) => Err(faults_stop(alloc, &fault, &[fault])),
@@ -81,7 +81,7 @@ fn schema_of(alloc: Global, read: &Modules<'_>, name: &str) -> Result<Vec<u8>, C
 
 /// Returns the name of a module, if one is named, and that of a type: `MODULE.TYPE`.
 fn names_in(name: &str) -> (Option<&str>, &str)
-    ensures { IsNameOf name.now result.1.now }
+    ensures { IsNameOf name.now (option_copied result.0) result.1.now }
 {
     match name.split_once('.') {
         Some((module, type_name)) => (Some(module), type_name),
@@ -91,7 +91,7 @@ fn names_in(name: &str) -> (Option<&str>, &str)
 
 /// Returns the texts, each with its name.
 fn sources_of<'a>(alloc: Global, texts: &[Texts<'a>]) -> Result<Vec<Source<'a>>, CallStop>
-    ensures { MatchResult result (λ sources. AreTexts texts.now) (λ stop. AreNoTexts texts.now stop.status) }
+    ensures { MatchResult result (λ sources. AreTexts texts.now × AreSources texts.now sources.items) (λ stop. AreNoTexts texts.now stop.status) }
 {
     let mut sources = Vec::new(alloc);
     for text in texts {
@@ -108,7 +108,7 @@ fn sources_of<'a>(alloc: Global, texts: &[Texts<'a>]) -> Result<Vec<Source<'a>>,
 
 /// Returns a text with its name, if both are UTF-8.
 fn source_of<'a>(text: &Texts<'a>) -> Option<Source<'a>>
-    ensures { MatchOption result (IsText text.now → ⊥) (λ source. IsText text.now) }
+    ensures { MatchOption result (IsText text.now → ⊥) (λ source. IsText text.now × (source_parts source ≡ text_parts text.now)) }
 {
     let Texts { name, text } = *text;
     match (str::from_utf8(name), str::from_utf8(text)) {
@@ -119,7 +119,7 @@ fn source_of<'a>(text: &Texts<'a>) -> Option<Source<'a>>
 
 /// Returns the octets of a schema.
 fn octets_of(alloc: Global, resolved: &Resolved) -> Result<Vec<u8>, CallStop>
-    ensures { MatchResult result (λ v. IsSchemaOctets resolved.now.schema resolved.now.root resolved.now.unchecked v.items) (IsStatusOr Refused) }
+    ensures { MatchResult result (λ v. IsSchemaOctets resolved.now.schema resolved.now.root resolved.now.unchecked v.items) (λ stop. IsStopAt 0 0 stop stop.status) }
 {
     let Resolved {
         schema,
@@ -138,7 +138,7 @@ fn octets_of(alloc: Global, resolved: &Resolved) -> Result<Vec<u8>, CallStop>
 
 /// Returns the end for modules with these faults: their lines, and the place of the first.
 fn faults_stop(alloc: Global, first: &Fault<'_>, faults: &[Fault<'_>]) -> CallStop
-    ensures { IsStatusOr Refused result }
+    ensures { IsStopAt first.now.position.line first.now.position.column result result.status }
 {
     let mut reason = NO_REASON;
     reason.line = first.position.line;
@@ -161,32 +161,53 @@ fn lines_of(alloc: Global, faults: &[Fault<'_>]) -> Result<String, AllocError> {
     Ok(lines)
 }
 
-/// Returns the name of the first module that has a type of this name, of those of this name if one
-/// is named.
-fn module_of<'text>(
-    read: &Modules<'text>,
+/// Returns the first module that has a type of this name, of those of this name if one is named.
+fn first_with<'list, 'text>(
+    modules: &'list [Module<'text>],
     module_name: Option<&str>,
     type_name: &str,
-) -> Option<&'text str> {
-    for module in &read.modules {
-        if module_name.is_some_and(|wanted| wanted != module.name) {
-            continue;
-        }
-        if has_type(module, type_name) {
-            return Some(module.name);
+) -> Option<&'list Module<'text>>
+    ensures { MatchOption result (HasNoTypeCalled modules.now (option_copied module_name.entry) type_name.now) (λ m. IsFirstWith modules.now (option_copied module_name.entry) type_name.now m.now) }
+{
+    for module in modules {
+        if has_type_called(module, module_name, type_name) {
+            return Some(module);
         }
     }
     None
 }
 
-/// Returns whether a module has a type of this name, without parameters.
-fn has_type(module: &Module<'_>, name: &str) -> bool {
-    for assignment in &module.assignments {
-        if assignment.name == name && assignment.parameters.is_none() {
-            if let Assigned::Type(_) = assignment.assigned {
-                return true;
-            }
+/// Returns whether a module has a type of this name, and is called so if a module is named.
+fn has_type_called(module: &Module<'_>, module_name: Option<&str>, type_name: &str) -> bool
+    ensures { IsWhether result (HasTypeCalled (option_copied module_name.entry) type_name.now «module».now) }
+{
+    match module_name {
+        Some(wanted) => module.name == wanted && assigns_type(&module.assignments, type_name),
+        None => assigns_type(&module.assignments, type_name),
+    }
+}
+
+/// Returns whether one of the assignments is that of a type to this name, without parameters.
+fn assigns_type(assignments: &[Assignment<'_>], name: &str) -> bool
+    ensures { IsWhether result (AssignsType name.now assignments.now) }
+{
+    for assignment in assignments {
+        if is_type_called(assignment, name) {
+            return true;
         }
     }
     false
+}
+
+/// Returns whether an assignment is that of a type to this name, without parameters.
+fn is_type_called(assignment: &Assignment<'_>, name: &str) -> bool
+    ensures { IsWhether result (IsTypeCalled name.now assignment.now) }
+{
+    match assignment.assigned {
+        Assigned::Type(_) => assignment.parameters.is_none() && assignment.name == name,
+        Assigned::Value { .. }
+        | Assigned::Values { .. }
+        | Assigned::Class { .. }
+        | Assigned::Macro => false,
+    }
 }

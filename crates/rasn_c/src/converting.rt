@@ -1,9 +1,12 @@
 //! A message as JSON, JSON as a message, and the DER octets of a message.
 ghost use Rattle.std.specs.Prelude.{◌≡◌, ◌++◌, ◌∷◌, [], MatchResult};
+ghost use Rattle.rasn_json.specs.Entry.{IsMemoryAlone};
+ghost use Rattle.rasn_json.specs.Refusals.{IsMemory};
+ghost use Rattle.rasn_json.specs.declared.entry.EncodeJsonError.TheVariants.{Encode};
 ghost use Rattle.rasn_c.specs.Status.{IsNumberOf};
-ghost use Rattle.rasn_c.specs.declared.status.Status.TheVariants.{OutOfMemory, Refused};
-ghost use Rattle.rasn_c.specs.Reasons.{IsPlain, IsStatusOr};
-ghost use Rattle.rasn_c.specs.Converting.{AnswersJson, AnswersEncode, AnswersNormaliseBy, IsJson, IsNoJsonBy, IsEncodedFrom, IsNotEncodedBy, IsNormalBy, IsNotNormalised, layout_of};
+ghost use Rattle.rasn_c.specs.declared.status.Status.TheVariants.{OutOfMemory};
+ghost use Rattle.rasn_c.specs.Reasons.{IsPlain, IsStopAt, no_reason};
+ghost use Rattle.rasn_c.specs.Converting.{AnswersJson, AnswersEncode, AnswersNormaliseBy, IsJson, IsNoJsonBy, IsEncodedFrom, IsNotEncodedBy, IsNormalBy, IsNotNormalised, column_of, layout_of, line_of};
 
 use crate::buffers::deliver;
 use crate::checking::unread_stop;
@@ -97,7 +100,7 @@ pub extern "C" fn soq_proved_encode(
 
 /// Returns the octets of the value of a JSON text.
 fn encode_by(alloc: Global, schema: &[u8], rule: u32, json: &[u8]) -> Result<Vec<u8>, CallStop>
-    ensures { MatchResult result (λ v. IsEncodedFrom schema.now rule json.now v.items) (λ stop. IsNotEncodedBy schema.now rule stop.status) }
+    ensures { MatchResult result (λ v. IsEncodedFrom schema.now rule json.now v.items) (λ stop. IsNotEncodedBy schema.now rule json.now stop stop.status) }
 {
     let Query { schema, root, rule } = query_of(alloc, schema, rule)?;
     let Ok(json) = str::from_utf8(json) else {
@@ -112,7 +115,8 @@ fn encode_by(alloc: Global, schema: &[u8], rule: u32, json: &[u8]) -> Result<Vec
 
 /// Returns the end for JSON that is refused, or for a value that has none.
 fn json_stop(alloc: Global, error: &JsonError) -> CallStop
-    ensures { IsStatusOr Refused result }
+    ensures place { IsStopAt (line_of error.now.kind) (column_of error.now.kind) result result.status }
+    ensures memory { IsMemory error.now → result.status ≡ OutOfMemory }
 {
     if error.is_out_of_memory() {
         return CallStop::plain(alloc, Status::OutOfMemory);
@@ -121,20 +125,29 @@ fn json_stop(alloc: Global, error: &JsonError) -> CallStop
     let (Ok(text), Ok(own)) = (format!(in alloc; "{error}"), format!(in alloc; "{kind}")) else {
         return CallStop::plain(alloc, Status::OutOfMemory);
     };
-    let mut reason = NO_REASON;
+    let mut reason = place_in(kind);
     reason.path_length = path_length(text.len(), own.len());
+    CallStop::of_text(Status::Refused, reason, text)
+}
+
+/// Returns a reason with the line and the column of a fault that is in a text.
+fn place_in(kind: &JsonErrorKind) -> Reason
+    ensures { result ≡ record no_reason { line = line_of kind.now; column = column_of kind.now } }
+{
+    let mut reason = NO_REASON;
     if let JsonErrorKind::Syntax { line, column }
     | JsonErrorKind::TextTooDeep { line, column } = kind
     {
         reason.line = u32::try_from(*line).unwrap_or(u32::MAX);
         reason.column = u32::try_from(*column).unwrap_or(u32::MAX);
     }
-    CallStop::of_text(Status::Refused, reason, text)
+    reason
 }
 
 /// Returns the end for a value that isn't written.
 fn write_stop(alloc: Global, error: &WriteError) -> CallStop
-    ensures { IsStatusOr Refused result }
+    ensures place { IsStopAt 0 0 result result.status }
+    ensures memory { IsMemoryAlone (Encode error.now) → result.status ≡ OutOfMemory }
 {
     if let WriteError::Encode(inner) = error {
         if inner.is_out_of_memory() {

@@ -1,16 +1,17 @@
 //! All parts of a message.
-ghost use Rattle.std.specs.Prelude.{◌≡◌, ◌++◌, ◌∷◌, [], IfOk, OnOk, MatchResult};
+ghost use Rattle.std.specs.Prelude.{◌≡◌, ◌++◌, ◌∷◌, [], length, List, ℕ, IfOk, OnOk, MatchOption, MatchResult};
+ghost use Rattle.rasn_schema.specs.declared.types.«Type».{«Type»};
 ghost use Rattle.rasn_c.specs.Status.{IsNumberOf};
 ghost use Rattle.rasn_c.specs.Extents.{IsExtentOf};
 ghost use Rattle.rasn_c.specs.declared.listing.ListedPart.{ListedPart};
-ghost use Rattle.rasn_c.specs.Listing.{AnswersParts, IsListing, IsNoListingBy, IsListedInto, IsPutListing, AreRows};
+ghost use Rattle.rasn_c.specs.Listing.{AnswersParts, HasNameOn, IsListing, IsNamePlaced, IsNoListingBy, IsListedInto, IsPutListing, LeadsToType, AreRows, ended};
 
 use crate::extent::{Extent, extent_of};
 use crate::reasons::{CallStop, Reason, report, without_memory};
 use crate::schemas::{Query, query_of};
 use crate::status::Status;
 use rasn_dynamic::{MessageParts, Part, parts_of};
-use rasn_schema::{Schema, TypeId, part_name, part_type, type_at};
+use rasn_schema::{Schema, Type, TypeId, part_name, part_type, type_at};
 use std::alloc::{AllocError, Global};
 
 /// A part of a message among all of its parts: `soq_listed_part` of the header.
@@ -109,7 +110,7 @@ fn put_listing(
 }
 
 fn list(alloc: Global, schema: &[u8], rule: u32, octets: &[u8]) -> Result<Listing, CallStop>
-    ensures { MatchResult result (λ l. IsListing schema.now rule octets.now l.parts.items) (λ stop. IsNoListingBy schema.now rule octets.now stop stop.status) }
+    ensures { MatchResult result (λ l. IsListing schema.now rule octets.now l.parts.items l.names.items) (λ stop. IsNoListingBy schema.now rule octets.now stop stop.status) }
 {
     let asked = query_of(alloc, schema, rule)?;
     let Query { schema, root, rule } = asked;
@@ -123,15 +124,16 @@ fn list(alloc: Global, schema: &[u8], rule: u32, octets: &[u8]) -> Result<Listin
     }
 }
 
-/// Returns the rows of the parts, none of which was gone over.
+/// Returns the rows of the parts, none of which was gone over, and their names.
 fn listing_of(
     alloc: Global,
     schema: &Schema,
     root: TypeId,
     parts: &mut MessageParts<'_>,
 ) -> Result<Listing, AllocError>
-    requires { parts.old.next ≡ 0 }
-    ensures { IfOk result (λ l. AreRows schema.now.types.items parts.old.input.now parts.old.list.items l.parts.items) }
+    requires next { parts.old.next ≡ 0 }
+    requires path { parts.old.path.items ≡ [] }
+    ensures { IfOk result (λ l. AreRows schema.now.types.items root.0 parts.old.input.now [] 0 parts.old.list.items l.parts.items l.names.items) }
 {
     let mut listing = Listing {
         parts: Vec::new(alloc),
@@ -143,10 +145,7 @@ fn listing_of(
         let Ok(Some(part)) = parts.next(alloc) else {
             return Err(AllocError);
         };
-        let name = match name_at(schema, root, parts.path.as_slice()) {
-            Some(name) => name,
-            None => "",
-        };
+        let name = name_at(schema, root, parts.path.as_slice()).unwrap_or("");
         push_part(alloc, schema, name, depth, index, &part, &mut listing)?;
     }
     Ok(listing)
@@ -162,7 +161,8 @@ fn push_part(
     part: &Part<'_>,
     listing: &mut Listing,
 ) -> Result<(), AllocError>
-    ensures { OnOk result ((r : ListedPart) × (listing.new.parts.items ≡ listing.old.parts.items ++ r ∷ []) × IsExtentOf schema.now.types.items part.now r.part × (r.depth ≡ depth) × (r.index ≡ index)) }
+    ensures row { OnOk result ((r : ListedPart) × (listing.new.parts.items ≡ listing.old.parts.items ++ r ∷ []) × IsExtentOf schema.now.types.items part.now r.part × (r.depth ≡ depth) × (r.index ≡ index) × IsNamePlaced (length listing.old.names.items) name.now r) }
+    ensures names { OnOk result (listing.new.names.items ≡ listing.old.names.items ++ ended name.now) }
 {
     let row = ListedPart {
         part: extent_of(alloc, schema, part),
@@ -176,8 +176,10 @@ fn push_part(
     Ok(())
 }
 
-/// Appends a name, and a zero after it.
-fn push_name(names: &mut Vec<u8>, name: &str) -> Result<(), AllocError> {
+/// Appends a name, and a zero after it, unless it is empty.
+fn push_name(names: &mut Vec<u8>, name: &str) -> Result<(), AllocError>
+    ensures { OnOk result (names.new.items ≡ names.old.items ++ ended name.now) }
+{
     if name.is_empty() {
         return Ok(());
     }
@@ -188,16 +190,21 @@ fn push_name(names: &mut Vec<u8>, name: &str) -> Result<(), AllocError> {
 
 /// Returns the name of the component or the alternative to which a path leads from the type with
 /// this number, if it has one.
-fn name_at<'schema>(schema: &'schema Schema, id: TypeId, path: &[usize]) -> Option<&'schema str> {
-    let mut id = id;
-    let mut rest = path;
-    while let [index, after @ ..] = rest {
-        let ty = type_at(schema.types(), id)?;
-        if after.is_empty() {
-            return part_name(ty, *index);
-        }
-        id = part_type(ty, *index)?;
-        rest = after;
+fn name_at<'schema>(schema: &'schema Schema, id: TypeId, path: &[usize]) -> Option<&'schema str>
+    ensures { MatchOption result ((name : List ℕ) → HasNameOn schema.now.types.items id.0 path.now name → ⊥) (λ name. HasNameOn schema.now.types.items id.0 path.now name.now) }
+{
+    let (last, front) = path.split_last()?;
+    let outer = type_on(schema, id, front)?;
+    part_name(outer, *last)
+}
+
+/// Returns the type to which a path leads from the type with this number, if it leads to one.
+fn type_on<'schema>(schema: &'schema Schema, id: TypeId, path: &[usize]) -> Option<&'schema Type>
+    ensures { MatchOption result ((ty : «Type») → LeadsToType schema.now.types.items id.0 path.now ty → ⊥) (λ ty. LeadsToType schema.now.types.items id.0 path.now ty.now) }
+{
+    let mut ty = type_at(schema.types(), id)?;
+    for index in path {
+        ty = type_at(schema.types(), part_type(ty, *index)?)?;
     }
-    None
+    Some(ty)
 }

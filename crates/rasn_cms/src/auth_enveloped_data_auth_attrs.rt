@@ -1,3 +1,5 @@
+// Written by `soqavise generate` from the ASN.1 of CmsMessages, CMS: change that, and write it
+// again.
 //! `AuthEnvelopedData-authAttrs ::= [1] IMPLICIT SET (SIZE (1..MAX)) OF Attribute`
 use crate::Attribute;
 use rasn::prelude::*;

@@ -1,3 +1,5 @@
+// Written by `soqavise generate` from the ASN.1 of CmsMessages, CMS: change that, and write it
+// again.
 //! `ContentType ::= OBJECT IDENTIFIER`
 use rasn::prelude::*;
 

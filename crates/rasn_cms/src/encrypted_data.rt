@@ -1,3 +1,5 @@
+// Written by `soqavise generate` from the ASN.1 of CmsMessages, CMS: change that, and write it
+// again.
 //! `EncryptedData ::= SEQUENCE`
 use crate::{CmsVersion, EncryptedContentInfo, EncryptedDataUnprotectedAttrs};
 use rasn::prelude::*;

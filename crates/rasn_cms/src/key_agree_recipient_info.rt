@@ -1,3 +1,5 @@
+// Written by `soqavise generate` from the ASN.1 of CmsMessages, CMS: change that, and write it
+// again.
 //! `KeyAgreeRecipientInfo ::= SEQUENCE`
 use crate::{CmsVersion, OriginatorIdentifierOrKey, RecipientEncryptedKeys, UserKeyingMaterial};
 use rasn::prelude::*;

@@ -1,3 +1,5 @@
+// Written by `soqavise generate` from the ASN.1 of CmsMessages, CMS: change that, and write it
+// again.
 //! `RecipientInfos ::= SET (SIZE (1..MAX)) OF RecipientInfo`
 use crate::RecipientInfo;
 use rasn::prelude::*;

@@ -1,3 +1,5 @@
+// Written by `soqavise generate` from the ASN.1 of CmsMessages, CMS: change that, and write it
+// again.
 //! `SignedMessage ::= SEQUENCE`
 use crate::{ContentType, SignedData};
 use rasn::prelude::*;

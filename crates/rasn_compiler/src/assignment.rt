@@ -51,8 +51,7 @@ impl<'tokens, 'text> Parser<'tokens, 'text> {
     fn type_or_class(&mut self) -> Result<Assigned<'text>, Halt<'text>> {
         if self.eat("CLASS") {
             let fields = self.class()?;
-            let syntax = self.class_syntax()?;
-            return Ok(Assigned::Class { fields, syntax });
+            return Ok(Assigned::Class { fields });
         }
         if self.begins_macro_use() {
             self.skip_to_assignment();
@@ -62,20 +61,14 @@ impl<'tokens, 'text> Parser<'tokens, 'text> {
     }
 
     /// Takes what is in braces, which have to be next.
-    fn expect_braces(&mut self, what: &'static str) -> Result<Unread<'text>, Halt<'text>> {
+    pub(crate) fn expect_braces(
+        &mut self,
+        what: &'static str,
+    ) -> Result<Unread<'text>, Halt<'text>> {
         match self.braces()? {
             Some(inner) => Ok(inner),
             None => Err(self.refuse(what)),
         }
-    }
-
-    /// Takes WITH SYNTAX of a class (X.681 10).
-    fn class_syntax(&mut self) -> Result<Option<Unread<'text>>, Halt<'text>> {
-        if !self.eat("WITH") {
-            return Ok(None);
-        }
-        self.expect("SYNTAX")?;
-        Ok(Some(self.expect_braces("{")?))
     }
 
     /// Reads a value, an object or a set of them, with the type or the class before it.

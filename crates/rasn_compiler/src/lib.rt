@@ -37,6 +37,6 @@ pub use position::Position;
 pub use resolver::Resolved;
 pub use steps::Steps;
 pub use tree::{
-    Actual, Assigned, Assignment, Base, Builtin, Component, Field, Given, Import, ListOf, Module,
-    NamedNumber, Presence, Symbol, Tag, TagClass, Tagging, Type, TypeIndex, Unread, Value,
+    Actual, Assigned, Assignment, Base, Builtin, Class, Component, Field, Given, Import, ListOf,
+    Module, NamedNumber, Presence, Symbol, Tag, TagClass, Tagging, Type, TypeIndex, Unread, Value,
 };

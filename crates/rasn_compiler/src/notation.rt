@@ -505,12 +505,6 @@ fn words_of(kind: LeafKind, tag: Tag) -> (&'static str, u32) {
 /// its universal tag.
 fn unparsed_words(kind: LeafKind, tag: Tag) -> Option<&'static str> {
     match (kind, tag.class, tag.value) {
-        (LeafKind::OctetString, Class::Universal, 9) => Some("REAL"),
-        (LeafKind::OctetString, Class::Universal, 13) => Some("RELATIVE-OID"),
-        (LeafKind::Visible, Class::Universal, 14) => Some("TIME"),
-        (LeafKind::Visible, Class::Universal, 32) => Some("TIME-OF-DAY"),
-        (LeafKind::Visible, Class::Universal, 33) => Some("DATE-TIME"),
-        (LeafKind::Visible, Class::Universal, 34) => Some("DURATION"),
         (LeafKind::Utf8, Class::Universal, 35) => Some("OID-IRI"),
         (LeafKind::Utf8, Class::Universal, 36) => Some("RELATIVE-OID-IRI"),
         _ => None,
@@ -525,7 +519,6 @@ fn string_words(tag: Tag) -> (&'static str, u32) {
         (Class::Universal, 20) => ("TeletexString", 20),
         (Class::Universal, 21) => ("VideotexString", 21),
         (Class::Universal, 25) => ("GraphicString", 25),
-        (Class::Universal, 28) => ("UniversalString", 28),
         _ => ("GeneralString", 27),
     }
 }

@@ -102,7 +102,6 @@ pub enum Assigned<'text> {
     /// A class (X.681 9), as the index of its fields in the list of types.
     Class {
         fields: TypeIndex,
-        syntax: Option<Unread<'text>>,
     },
     /// A macro of X.208, or what one was used for.
     Macro,
@@ -164,8 +163,8 @@ pub enum Base<'text> {
         /// What it is given for its parameters (X.683 9).
         actuals: Vec<Actual<'text>>,
     },
-    /// The fields of a class (X.681 9), which isn't a type.
-    Class(Vec<Field<'text>>),
+    /// A class (X.681 9), which isn't a type.
+    Class(Class<'text>),
     /// `CLASS.&field` or `object.&Type`, or a field of such a field (X.681 14, 15).
     ClassField {
         /// The class or the object, as a reference.
@@ -200,6 +199,14 @@ pub enum Given<'text> {
     Members(Unread<'text>),
 }
 
+/// The fields of a class, and how its objects are written (X.681 9.3).
+#[derive(Drop)]
+pub struct Class<'text> {
+    pub fields: Vec<Field<'text>>,
+    /// Holds what WITH SYNTAX has in braces (X.681 10), or None if objects name their fields.
+    pub syntax: Option<Unread<'text>>,
+}
+
 /// A field of a class (X.681 9.4).
 #[derive(Clone, Copy)]
 pub struct Field<'text> {
@@ -208,6 +215,8 @@ pub struct Field<'text> {
     /// The type of its values, or the class of its objects. None if it is a type, or has the type
     /// that another field is.
     pub of: Option<TypeIndex>,
+    /// Holds what follows DEFAULT, which an object has that doesn't name the field.
+    pub default: Option<Unread<'text>>,
 }
 
 /// What SEQUENCE OF or SET OF says of its elements (X.680 26, 28).
@@ -313,6 +322,8 @@ pub enum Value<'text> {
         module: Option<&'text str>,
         name: &'text str,
     },
-    /// Any other: what is in braces, `name : value`, `Type : value`, `object.&field`.
+    /// A field of an object (X.681 15), `object.&field`, in which other fields may be between.
+    Field(Unread<'text>),
+    /// Any other: what is in braces, `name : value`, `Type : value`.
     Unread(Unread<'text>),
 }

@@ -86,14 +86,18 @@ impl<'tokens, 'text> Parser<'tokens, 'text> {
             self.balanced()?;
             return Ok(Value::Unread(self.since(start)));
         }
-        if self.is(".") && self.peek_after(1) == Kind::Field {
-            let _path = self.path()?;
-            return Ok(Value::Unread(self.since(start)));
+        if self.eat_path()? {
+            return Ok(Value::Field(self.since(start)));
         }
         Ok(Value::Name { module: None, name })
     }
 
-    /// Reads `Module.value`.
+    /// Takes the fields after an object (X.681 15), and returns whether there are some.
+    fn eat_path(&mut self) -> Result<bool, Halt<'text>> {
+        Ok(!self.path()?.is_empty())
+    }
+
+    /// Reads `Module.value`, or `Module.object.&field`.
     fn outside_value(&mut self) -> Result<Value<'text>, Halt<'text>> {
         let start = self.rest;
         let module = Some(self.take());
@@ -102,6 +106,9 @@ impl<'tokens, 'text> Parser<'tokens, 'text> {
         if self.is("{") {
             self.balanced()?;
             return Ok(Value::Unread(self.since(start)));
+        }
+        if self.eat_path()? {
+            return Ok(Value::Field(self.since(start)));
         }
         Ok(Value::Name { module, name })
     }

@@ -20,10 +20,13 @@ use Rattle.rasn_enc.specs.View.{View, started, AreTagsInOrder}
 use Rattle.rasn_enc.specs.Encoding.{EncodeFails, NoEncoding}
 use Rattle.rasn_enc.specs.Primitive.{IsAllocError, IsOrderError}
 use Rattle.rasn.specs.Headline.{Identify, IsFollowed, EncodingFails}
-use Rattle.rasn.specs.Normal.{Means}
+use Rattle.rasn.specs.Normal.{Means, IsByRules}
+use Rattle.rasn.specs.declared.normal.NormaliseError.{NormaliseError}
 use Rattle.rasn.specs.declared.normal.NormaliseError.TheVariants.{Decode, Encode, NotCanonical}
 use Rattle.rasn.proofs.LawsHold.Written.{identify}
-use Rattle.rasn_dynamic.specs.Entry.{IsReadBack, IsNormalOf, IsNoNormalOf}
+use Rattle.rasn_schema.specs.declared.types.«Type».{«Type»}
+use Rattle.rasn_dynamic.specs.Entry.{IsReadBack, IsNormalOf, IsNoNormalOf, IsByDer}
+use Rattle.rasn_dynamic.specs.Refusals.{IsReadingError}
 
 pub identified : {V E : Type 0} (items : V → List ℕ) (s : Shape) (t : Tree) (rule : Codec) (r : Result V E) → rule ≡ Der → IfOk r (λ v. Bytes rule s t (items v)) → IfOk r (λ v. Identify s t (items v))
 identified items s t rule (Ok v) der is = identify s t (items v) (subst (λ k. Bytes k s t (items v)) der is)
@@ -73,3 +76,15 @@ not_written s t e h = λ rule input means. elim h [
   | inl m ↦ inl m
   | inr n ↦ inr (t, means, n)
 ]
+
+-- ---- by which rules
+
+pub by_rules : (rule : Codec) (e : NormaliseError) → IsByDer e → IsByRules rule e
+by_rules rule (Decode e) h = inr h
+by_rules rule (Encode e) h = h
+by_rules rule NotCanonical h = tt
+
+pub after_reading : (types : List «Type») (rule : Codec) (id : ℕ) (input : List ℕ) (e : NormaliseError) → IsByDer e → IsReadingError types rule id input e
+after_reading types rule id input (Decode e) h = inr h.0
+after_reading types rule id input (Encode e) h = tt
+after_reading types rule id input NotCanonical h = tt

@@ -1,6 +1,6 @@
 -- What is read from the front of an input.
 use Rattle.std.proofs.Common.{◌≡◌, List, ℕ, [], inl, inr, Bool, true, Option, Some, None, Result, Ok, Err, refl, sym, subst}
-use Rattle.std.specs.Prelude.{◌⊎◌, MatchResult, IfErr}
+use Rattle.std.specs.Prelude.{◌⊎◌, MatchResult, IfOk, IfErr}
 use Rattle.std.specs.Borrow.{Bor}
 use Rattle.rasn_types.specs.declared.types.codec.Codec.{Codec}
 use Rattle.rasn_types.specs.declared.error.decode.DecodeError.{DecodeError}
@@ -10,7 +10,7 @@ use Rattle.rasn_types.specs.Errors.{IsOutOfMemory}
 use Rattle.rasn_types.specs.Readings.{Reading}
 use Rattle.rasn_types.specs.Shapes.{Shape, Tree}
 use Rattle.rasn_types.specs.Grammar.{Reads, top}
-use Rattle.rasn_de.specs.State.{State}
+use Rattle.rasn_de.specs.State.{State, IsEnd}
 use Rattle.rasn_de.specs.Outcomes.{Exact, Outcome, Got, refusal}
 use Rattle.rasn_de.specs.Decodes.{DecodesExactly}
 use Rattle.rasn.specs.Headline.{IsExtraData, IsFollowed, Answered, AnsweredAlone}
@@ -63,6 +63,11 @@ followed X rule s input rest (t, h) (Err x) f = inr (record { t = t; rest = rest
 pub memory_or_none : (k : DecodeErrorKind) (R : Reading Tree) (input : List ℕ) (t : Tree) (rest : List ℕ) → Exact R input (refusal k) → R input t rest → IsOutOfMemory k
 memory_or_none OutOfMemory R input t rest h r = refl
 memory_or_none _ R input t rest h r = absurd (h t rest r)
+
+-- What follows the value is an end of the input.
+pub ends_first : (keep : Bool) (rule : Codec) (s : Shape) (input : List ℕ) (r : Result (Value × Bor (List ℕ)) Refusal) → IsReadFirst keep rule s input r → IfOk r (λ read. IsEnd input read.1.now)
+ends_first keep rule s input (Ok read) (last, e, m) = subst (IsEnd input) e m.2.end
+ends_first keep rule s input (Err r) h = tt
 
 -- What is checked is read.
 module _ {T : Type 0} (rule : Codec) (s : Shape) (tree : T → Tree) (input : List ℕ) where

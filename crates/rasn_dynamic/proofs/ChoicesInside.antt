@@ -31,6 +31,7 @@ use Rattle.rasn_dynamic.specs.Inside.{DecodesTree}
 use Rattle.rasn_dynamic.specs.Faults.{IsFault, IsFaultIn, IsOnly, IsAnyPart, IsMarked, IsStepped, FailsAt}
 use Rattle.rasn_dynamic.specs.Listed.{Lists, Inside, PartListed, IsNoted, IsFinished}
 use Rattle.rasn_dynamic.specs.Nested.{IsChoiceOf, IsChoiceHere, IsNoChoice, IsAlternativeOf, LeadsInto, IsRefusedHere, GoesDown, ReadsPart, Leaves, ReadsWithin}
+use Rattle.rasn_dynamic.specs.Times.{FitsFrom}
 use Rattle.rasn_dynamic.specs.declared.nested.Nested.{Nested}
 use Rattle.std.specs.Option.{option_to_list}
 use Rattle.rasn_dynamic.proofs.Chosen.{none_for, chosen_got, chosen_refused}
@@ -181,8 +182,8 @@ module _ (types : List «Type») (keep : Bool) (s : State) (choice : OuterChoice
   is_left (Ok v) new f o (Ok w) g n p (c, e, z) = record {
     reads = choice_made keep inner.index v (DecodesTree Outer) s p.reads.0 (Ok w) new p.reads.1 c tt (is_read p.reads.0 new p.reads.2)
         (λ x m. alloc_failed _ (λ (z : Tree). z) s new x m p.reads.2.stays p.reads.2.end);
-    fits = λ k. fits_below types outer.levels inner.levels outer.id.0 Ty w h.deep (sym h.found)
-        (choice_fits keep inner.index v (AlternativeFits (Fits types inner.levels) Ks) (Ok w) c (λ k. (h.chosen, h.next.2.0, subst (λ (z : TypeId). Fits types inner.levels z.0 v) h.id_is (p.fits k))) k);
+    fits = λ k x i. fits_below x types outer.levels inner.levels outer.id.0 Ty w h.deep (sym h.found)
+        (choice_fits keep inner.index v (AlternativeFits (FitsFrom x types inner.levels) Ks) (Ok w) c (λ k. (h.chosen, h.next.2.0, subst (λ (z : TypeId). FitsFrom x types inner.levels z.0 v) h.id_is (p.fits k x i))) k);
     rules = tt;
     told = e ∙ p.told;
     listed = is_listed p.reads.0 new o n p.reads.2 p.listed z;
@@ -191,7 +192,7 @@ module _ (types : List «Type») (keep : Bool) (s : State) (choice : OuterChoice
       let d : DecodesTree Outer s (Err x) new = alloc_failed _ (λ (z : Tree). z) s new x m p.reads.2.stays p.reads.2.end in
       record {
         reads = d;
-        fits = λ k. tt;
+        fits = λ k x i. tt;
         rules = c ∙ same_rules p.reads.2.stays;
         told = outer_named x new f between g (λ y i. absurd (not_named f y i p.told)) (λ i. fails_found types outer.levels outer.id.0 inner.levels Ty s x h.deep h.found (inr (inr m))) d marks steps;
         listed = tt;
@@ -199,7 +200,7 @@ module _ (types : List «Type») (keep : Bool) (s : State) (choice : OuterChoice
   is_left (Err x) new f o (Ok w) g n p l = absurd l
   is_left (Err x) new f o (Err y) g n p (e, between, marks, steps) = subst (λ z. ReadsPart types keep outer s before (Err z) new g n) (sym e) (record {
     reads = is_refused x new p.reads;
-    fits = λ k. tt;
+    fits = λ k x i. tt;
     rules = p.rules;
     told = outer_named x new f between g (λ u i. fault_inside x u (let same : p.told.0 ≡ u = cc in subst (IsFaultIn types inner.levels (IsOnly inner.index inner.id.0 s) s s x) same p.told.2))
         (λ i. absurd (not_named f p.told.0 p.told.1 i)) (is_refused x new p.reads) marks steps;

@@ -24,19 +24,20 @@ use Rattle.rasn_schema.specs.declared.types.«Type».TheVariants.{Leaf, Enumerat
 use Rattle.rasn_schema.proofs.Lists.{but_last}
 use Rattle.rasn_schema.proofs.OpenEnds.{among_not_unknown}
 use Rattle.rasn_schema.specs.Fitting.{IsLeftOutAs}
-use Rattle.rasn_schema.specs.Fitting.{Fits, FitsBy, FitsFound, NumberFits, OctetsFit, FitsLeaf, AreOctets, AreItems, AreElements, ComponentFits, ComponentsFit, EachFits}
+use Rattle.rasn_schema.specs.Fitting.{NumberFits, OctetsFit, FitsLeaf, AreOctets, AreItems, AreElements, ComponentFits, ComponentsFit, EachFits}
 use Rattle.rasn_dynamic.specs.Sets.{is_extensible, named_components}
+use Rattle.rasn_dynamic.specs.Times.{FitsFromBy, FitsFromFound, FitsFrom}
 use Rattle.rasn_dynamic.specs.Found.{OneFound, FoundFit, MembersFit}
 use Rattle.rasn_dynamic.proofs.Named.{take_but_last}
 use Rattle.rasn_dynamic.specs.Calls.{nones, IsMade, IsPut, IsValueOf, AreSettled, Gathers, IsNumberIn, IsStringOf}
 use Rattle.rasn_de.specs.State.{State}
 
-pub fits_below : (types : List «Type») (levels below k : ℕ) (ty : «Type») (v : Value) → levels ≡ suc below → Some ty ≡ slice_get types k → FitsBy (λ j w. Fits types below j w) ty v → Fits types levels k v
-unfolding Fits
-fits_below types zero below k ty v e g h = absurd (omega (arith, e))
-fits_below types (suc m) below k ty v e g h =
-    let s : m ≡ below = omega (arith, e) in
-    subst (λ o. FitsFound (λ j w. Fits types m j w) o v) g (subst (λ n. FitsBy (λ j w. Fits types n j w) ty v) (sym s) h)
+pub fits_below : (s : State) (types : List «Type») (levels below k : ℕ) (ty : «Type») (v : Value) → levels ≡ suc below → Some ty ≡ slice_get types k → FitsFromBy s (λ j w. FitsFrom s types below j w) ty v → FitsFrom s types levels k v
+unfolding FitsFrom
+fits_below s types zero below k ty v e g h = absurd (omega (arith, e))
+fits_below s types (suc m) below k ty v e g h =
+    let q : m ≡ below = omega (arith, e) in
+    subst (λ o. FitsFromFound s (λ j w. FitsFrom s types m j w) o v) g (subst (λ n. FitsFromBy s (λ j w. FitsFrom s types n j w) ty v) (sym q) h)
 
 pub if_ok : (P Q : Value → Type 0) (r : Result Value DecodeError) → ((v : Value) → P v → Q v) → IfOk r P → IfOk r Q
 if_ok P Q (Ok v) f h = f v h
@@ -214,12 +215,12 @@ nothing_known None e = cc
 nothing_known (Some tag) e = cc
 
 -- A list of such values is one of the type whose shape is unknown values.
-unknown_fits : (types : List «Type») (n k : ℕ) (v : Value) → is_unknown (shape_of_type types n k) ≡ true → AreItems (EachFits AreOctets) v → Fits types n k v
-unfolding shape_of_type Fits
-unknown_fits types zero k v e a = absurd (nothing_known (looked_for (tag_at types k)) e)
-unknown_fits types (suc n) k v e a = go (slice_get types k) e
+unknown_fits : (s : State) (types : List «Type») (n k : ℕ) (v : Value) → is_unknown (shape_of_type types n k) ≡ true → AreItems (EachFits AreOctets) v → FitsFrom s types n k v
+unfolding shape_of_type FitsFrom
+unknown_fits s types zero k v e a = absurd (nothing_known (looked_for (tag_at types k)) e)
+unknown_fits s types (suc n) k v e a = go (slice_get types k) e
   where
-    go : (o : Option «Type») → is_unknown (found_by (λ j. shape_of_type types n j) o) ≡ true → FitsFound (λ j w. Fits types n j w) o v
+    go : (o : Option «Type») → is_unknown (found_by (λ j. shape_of_type types n j) o) ≡ true → FitsFromFound s (λ j w. FitsFrom s types n j w) o v
     go None e = absurd cc
     go (Some (Leaf kind tag c names)) e = absurd cc
     go (Some (Enumerated tag ns)) e = absurd cc
@@ -232,16 +233,16 @@ unknown_fits types (suc n) k v e a = go (slice_get types k) e
     go (Some (SetOf tag i c)) e = absurd cc
     go (Some Unknown) e = a
 
-module _ (types : List «Type») (n : ℕ) where
+module _ (s : State) (types : List «Type») (n : ℕ) where
   abbrev F : ℕ → Shape
   F = shape_of_type types n
 
   abbrev G : ℕ → Value → Type 0
-  G = Fits types n
+  G = FitsFrom s types n
 
   last_fits : (ps : List Component) → is_extensible F ps ≡ true → (known : List Value) (v : Value) → ComponentsFit G (but_last ps) known → AreItems (EachFits AreOctets) v → ComponentsFit G ps (known ++ v ∷ [])
   last_fits [] e known v h a = absurd cc
-  last_fits (p ∷ []) e [] v h a = (inr (unknown_fits types n p.type_id.0 v e a), tt)
+  last_fits (p ∷ []) e [] v h a = (inr (unknown_fits s types n p.type_id.0 v e a), tt)
   last_fits (p ∷ []) e (w ∷ known) v h a = absurd h
   last_fits (p ∷ (q ∷ ps)) e [] v h a = absurd h
   last_fits (p ∷ (q ∷ ps)) e (w ∷ known) v h a = (h.0, last_fits (q ∷ ps) e known v h.1 a)

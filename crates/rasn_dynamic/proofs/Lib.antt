@@ -28,6 +28,7 @@ pub mod Ways
 pub mod PathTexts
 pub mod Checked
 pub mod Listed
+pub mod Times
 pub mod Readers
 pub mod ChoicesInside
 pub mod Placed
@@ -36,6 +37,7 @@ pub mod WorkedParts
 pub mod CheckedLeaves
 pub mod LeadsTo
 pub mod WorkedFaults
+pub mod WorkedTimes
 pub mod Shown
 pub mod Named
 pub mod LeastTags
@@ -43,3 +45,5 @@ pub mod SetWritten
 pub mod AllMembers
 pub mod Members
 pub mod ShortHeader
+pub mod LeafContents
+pub mod Universals

@@ -92,7 +92,7 @@ chosen_tree number value (Items' _ row) h = absurd h
 chosen_tree number value (Elements' _ row) h = absurd h
 chosen_tree number value Absent h = absurd h
 
-chosen_as : (P Q : ℕ → Value → Type 0) → ((k : ℕ) (v : Value) → P k v → Q k v) → (v : Value) → IsChosen P v → IsChosen Q v
+pub chosen_as : (P Q : ℕ → Value → Type 0) → ((k : ℕ) (v : Value) → P k v → Q k v) → (v : Value) → IsChosen P v → IsChosen Q v
 chosen_as P Q f (Chosen' k _ w) h = f k w h
 chosen_as P Q f (Boolean b) h = absurd h
 chosen_as P Q f Null h = absurd h

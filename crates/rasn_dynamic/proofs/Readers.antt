@@ -28,7 +28,7 @@ use Rattle.rasn_schema.specs.declared.types.«Type».TheVariants.{Leaf, Enumerat
 use Rattle.rasn_schema.specs.declared.value.Value.{Value, Items, Elements as ElementsOf}
 use Rattle.rasn_schema.specs.Shapes.{shape_of_type, type_by, components_by}
 use Rattle.rasn_schema.specs.Trees.{tree_of}
-use Rattle.rasn_schema.specs.Fitting.{Fits, FitsBy, ComponentsFit, EachFits, AreItems, AreElements}
+use Rattle.rasn_schema.specs.Fitting.{ComponentsFit, EachFits, AreItems, AreElements}
 use Rattle.rasn_dynamic.specs.declared.walk.Refused.{Refused}
 use Rattle.rasn_dynamic.specs.declared.trace.UnreadValue.{UnreadValue}
 use Rattle.rasn_dynamic.specs.declared.span.Spans.{Spans}
@@ -40,11 +40,13 @@ use Rattle.rasn_dynamic.specs.Sets.{is_extensible, named_components, last_type}
 use Rattle.rasn_dynamic.specs.Typed.{elements, element_count, IsSized, MayRunOut, DecodesComponents, HoldsOthers, DecodesContents, DecodesType}
 use Rattle.rasn_dynamic.specs.Faults.{octets_after, IsFaultIn, IsFaultOf, IsFaultInside, IsAnyPart, IsOnly, IsComponentAt, IsMemberAfter, Told, TellsOf, ReadsEachPart, StopsInSequence, StopsInSet, FailsItself}
 use Rattle.rasn_dynamic.specs.Listed.{Lists, Inside, IsInside, IsOutside, PartListed, InsideListed, ComponentsListed, MembersListed, ElementsListed}
+use Rattle.rasn_dynamic.specs.Times.{Covers, FitsFromBy, FitsFrom}
 use Rattle.rasn_dynamic.specs.Parts.{IsHeaderOf}
 use Rattle.rasn_dynamic.specs.Readers.{IsCounted, DecodesCounted, count_of, DecodesHeld, IsSizedAs, ReadsContents, ReadsType}
 use Rattle.rasn_dynamic.proofs.Making.{made_as, items_made, elements_made}
 use Rattle.rasn_dynamic.proofs.Typed.{contents_end, contents_stay, is_sized, missized, not_sized, type_decodes, count_items, named_so}
 use Rattle.rasn_dynamic.proofs.FitsRead.{if_ok, are_items, are_elements, members_fit}
+use Rattle.rasn_dynamic.proofs.Times.{covers_inside}
 use Rattle.rasn_dynamic.proofs.Faults.{opened, opened_short, not_named, unmoved, named, unnamed, tells, told_map, got_inside, if_err_map}
 use Rattle.rasn_dynamic.proofs.Listed.{HasHeader, HoldsNone, if_any, inside_listed, holder_listed, tagged_listed, none_listed, components_same}
 
@@ -53,7 +55,7 @@ pub record ReadsHeld (types : List «Type») (below : ℕ) (keep : Bool) (ty : �
     (old : State) (before : Spans) (r : Result Value DecodeError) (new : State) (fault : Option UnreadValue) (after : Spans) : Type 0 where
   pub exact : Making keep tree_of (DecodesInside read d) old r new
   pub octets : old.depth ≢ 0 → AreOctets old.rest
-  pub fits : keep ≡ true → IfOk r (FitsBy (Fits types below) ty)
+  pub fits : keep ≡ true → (s : State) → Covers s old → IfOk r (FitsFromBy s (FitsFrom s types below) ty)
   pub rules : IfErr r (λ e. e.codec ≡ old.rule)
   pub told : Told (IsFaultInside types below d ty old) r fault
   pub itself : IfErr r (λ e. fault ≡ None → DecodesInside (ReadsEachPart (shape_of_type types below) ty) d old (Err e) new)
@@ -125,7 +127,7 @@ module _ (types : List «Type») (below : ℕ) (keep : Bool) where
         record {
           exact = step_none read d old e mid k;
           octets = octets;
-          fits = λ y. tt;
+          fits = λ y s v. tt;
           rules = codec_is k.2;
           told = λ x s. absurd (not_named fault x s clear);
           itself = λ n. step_none (ReadsEachPart f ty) d old e mid k;
@@ -159,7 +161,7 @@ module _ (types : List «Type») (below : ℕ) (keep : Bool) where
       refused_by (Err y) k x fault after n = record {
         exact = step_refused read d old p c mid w error left k.exact;
         octets = octets;
-        fits = λ z. tt;
+        fits = λ z s v. tt;
         rules = k.rules ∙ same_rules w.2;
         told = opened types d old octets p c mid w below ty error left.closing following (stays error k.exact) refl told fault k.told n;
         itself = λ z. step_refused (ReadsEachPart f ty) d old p c mid w error left (k.itself (unmoved following told fault n z));
@@ -186,7 +188,7 @@ module _ (types : List «Type») (below : ℕ) (keep : Bool) where
         unclosed_by (Ok v) k z e g = record {
           exact = step_unclosed read d old p c mid w k.exact.0 left k.exact.2 l m e new g;
           octets = octets;
-          fits = λ y. tt;
+          fits = λ y s v. tt;
           rules = codec_is g.2 ∙ same_rules w.5.stays;
           told = λ x s. absurd (not_named fault x s (z.1 ∙ k.told));
           itself = λ y. step_unclosed (ReadsEachPart f ty) d old p c mid w k.exact.0 left (them p (Ok k.exact.0) left k.exact.2) l m e new g;
@@ -203,7 +205,7 @@ module _ (types : List «Type») (below : ℕ) (keep : Bool) where
         closed_by (Ok v) k z a goes leaves g = record {
           exact = (k.exact.0, k.exact.1, step_closed read d old p c mid w k.exact.0 left k.exact.2 l m new g);
           octets = octets;
-          fits = k.fits;
+          fits = λ y s v. k.fits y s (covers_inside d old octets p c mid w s v);
           rules = tt;
           told = z.1 ∙ k.told;
           itself = tt;
@@ -257,7 +259,7 @@ module _ (types : List «Type») (below : ℕ) (keep : Bool) where
   module _ (old : State) (before : Spans) (r : Result Value DecodeError) (new : State) (fault : Option UnreadValue) (after : Spans) where
     -- What an explicit tag holds is a part.
     pub tagged_contents : (tag : Tag) (id : TypeId)
-        → Making keep tree_of (DecodesTree (f id.0)) old r new → (keep ≡ true → IfOk r (λ v. Fits types below id.0 v)) → IfErr r (λ e. e.codec ≡ old.rule)
+        → Making keep tree_of (DecodesTree (f id.0)) old r new → (keep ≡ true → (s : State) → Covers s old → IfOk r (λ v. FitsFrom s types below id.0 v)) → IfErr r (λ e. e.codec ≡ old.rule)
         → TellsOf (IsFaultIn types below (IsOnly 0 id.0 old) old old) r fault
         → IfOk r (λ v. Lists (λ b es. PartListed f below (Inside types below) id.0 0 b old new es) before after)
         → ReadsContents types below keep (Tagged tag id) (DecodesContents f (Tagged tag id)) old before r new fault after
@@ -307,7 +309,7 @@ module _ (types : List «Type») (below : ℕ) (keep : Bool) where
           record {
             exact = s;
             reads = type_decodes f old h.octets (Err e) new ty s;
-            fits = λ z. tt;
+            fits = λ z s v. tt;
             rules = h.rules;
             told = λ x z. named e x (subst (λ y. IsFaultInside types below y ty old e x) i (h.told x z));
             itself = λ z. itself e (not_sized (ReadsEachPart f ty) tag c d i old new e (h.itself z));
@@ -335,7 +337,7 @@ module _ (types : List «Type») (below : ℕ) (keep : Bool) where
           record {
             exact = x;
             reads = type_decodes f old h.octets (Err e) new ty x;
-            fits = λ y. tt;
+            fits = λ y s v. tt;
             rules = z ∙ same_rules h.exact.2.0.stays;
             told = λ y q. absurd (not_named fault y q h.told);
             itself = λ y. itself e (missized (ReadsEachPart f ty) tag c d i old new h.exact.0
@@ -416,7 +418,7 @@ module _ (types : List «Type») (below : ℕ) (keep : Bool) where
     exact_none (SequenceOf tag id c) h k = absurd h
     exact_none (SetOf tag id c) h k = absurd h
 
-    pub leaf_read : (ty : «Type») → HoldsNone ty → Making keep tree_of (DecodesTree (type_by f ty)) old r new → (keep ≡ true → IfOk r (FitsBy (Fits types below) ty))
+    pub leaf_read : (ty : «Type») → HoldsNone ty → Making keep tree_of (DecodesTree (type_by f ty)) old r new → (keep ≡ true → (s : State) → Covers s old → IfOk r (FitsFromBy s (FitsFrom s types below) ty))
         → IfErr r (λ e. e.codec ≡ old.rule) → IfErr r (FailsItself f ty old) → fault ≡ None → ReadsType types below keep ty old spans r new fault spans
     leaf_read ty none reads fits rules fails clear = record {
       exact = exact_none ty none reads;
@@ -441,7 +443,7 @@ module _ (types : List «Type») (below : ℕ) (keep : Bool) where
             → x.codec ≡ old.rule → ((y : UnreadValue) → fault ≡ Some y → IsFaultIn types below (IsComponentAt f l old) old old x y) → (fault ≡ None → StopsInSequence f l old x) → InSequence (Err x)
         components_refused x reads fails rules told itself = record {
           exact = subst (λ z. DecodesComponents (components_by f z) old (Err x) new) e (reads, fails);
-          fits = λ k. tt;
+          fits = λ k s v. tt;
           rules = rules;
           told = λ y s. subst (λ z. IsFaultIn types below (IsComponentAt f z old) old old x y) e (told y s);
           itself = λ n. subst (λ z. StopsInSequence f z old x) e (itself n);
@@ -449,11 +451,11 @@ module _ (types : List «Type») (below : ℕ) (keep : Bool) where
         }
 
         pub components_put : (vs : Vec Value Global) (out : Value) → (keep ≡ true → out ≡ Items vs) → Making keep trees_of (DecodesBy (ReadsSequence (components_by f l)) items) old (Ok vs) new
-            → (keep ≡ true → ComponentsFit (Fits types below) l vs.items) → fault ≡ None → Lists (λ b es. ComponentsListed f below (Inside types below) l b old es) before after → InSequence (Ok out)
+            → (keep ≡ true → (s : State) → Covers s old → ComponentsFit (FitsFrom s types below) l vs.items) → fault ≡ None → Lists (λ b es. ComponentsListed f below (Inside types below) l b old es) before after → InSequence (Ok out)
         components_put vs out p w fits told listed = record {
           exact = (items w.0, (λ k. ap tree_of (p k) ∙ items_made keep vs w.0 w.1 k), (w.0, refl, subst (λ z. DecodesComponents (components_by f z) old (Ok w.0) new) e (w.2, tt)));
-          fits = λ k. subst (λ z. AreItems (ComponentsFit (Fits types below) z) out) e
-              (subst (AreItems (ComponentsFit (Fits types below) l)) (sym (p k)) (are_items (ComponentsFit (Fits types below) l) vs (fits k)));
+          fits = λ k s v. subst (λ z. AreItems (ComponentsFit (FitsFrom s types below) z) out) e
+              (subst (AreItems (ComponentsFit (FitsFrom s types below) l)) (sym (p k)) (are_items (ComponentsFit (FitsFrom s types below) l) vs (fits k s v)));
           rules = tt;
           told = told;
           itself = tt;
@@ -480,7 +482,7 @@ module _ (types : List «Type») (below : ℕ) (keep : Bool) where
             → ((y : UnreadValue) → fault ≡ Some y → IsFaultIn types below (IsMemberAfter f extensible qs other old) old old x y) → (fault ≡ None → StopsInSet f (string_bytes name) extensible qs old x) → InSet (Err x)
         members_refused x reads rules told itself = record {
           exact = so (λ b z o. Read (Err x) b z) reads;
-          fits = λ k. tt;
+          fits = λ k s v. tt;
           rules = rules;
           told = λ y s. so (λ b z o. IsFaultIn types below (IsMemberAfter f b z o old) old old x y) (told y s);
           itself = λ n. so (λ b z o. StopsInSet f (string_bytes name) b z old x) (itself n);
@@ -489,12 +491,12 @@ module _ (types : List «Type») (below : ℕ) (keep : Bool) where
 
         pub members_put : (vs : Vec Value Global) (out : Value) → (keep ≡ true → out ≡ Items vs)
             → Making keep trees_of (MayRunOut (DecodesSetPartContents extensible (components_by f qs) items (names_of qs))) old (Ok vs) new
-            → (keep ≡ true → MembersFit (Fits types below) extensible qs vs.items) → fault ≡ None
+            → (keep ≡ true → (s : State) → Covers s old → MembersFit (FitsFrom s types below) extensible qs vs.items) → fault ≡ None
             → Lists (λ b es. MembersListed f below (Inside types below) extensible qs other b old es) before after → InSet (Ok out)
         members_put vs out p w fits told listed = record {
           exact = (items w.0, (λ k. ap tree_of (p k) ∙ items_made keep vs w.0 w.1 k), (w.0, refl, so (λ b z o. Read (Ok w.0) b z) w.2));
-          fits = λ k. subst (AreItems (ComponentsFit (Fits types below) ps.items)) (sym (p k)) (are_items (ComponentsFit (Fits types below) ps.items) vs
-              (members_fit types below ps.items vs.items (so (λ b z o. MembersFit (Fits types below) b z vs.items) (fits k))));
+          fits = λ k s v. subst (AreItems (ComponentsFit (FitsFrom s types below) ps.items)) (sym (p k)) (are_items (ComponentsFit (FitsFrom s types below) ps.items) vs
+              (members_fit s types below ps.items vs.items (so (λ b z o. MembersFit (FitsFrom s types below) b z vs.items) (fits k s v))));
           rules = tt;
           told = told;
           itself = tt;
@@ -508,11 +510,11 @@ module _ (types : List «Type») (below : ℕ) (keep : Bool) where
       Elements ty r = ReadsContents types below keep ty (DecodesCounted (DecodesContents f ty) n) old before r new fault after
 
       pub elements_put : (vs : Vec Value Global) (out : Value) → (keep ≡ true → out ≡ Items vs) → Counting keep trees_of IsLength (DecodesElements (DecodesTree (f id.0)) these) old (Ok vs) new n
-          → (keep ≡ true → EachFits (Fits types below id.0) vs.items) → fault ≡ None → Lists (λ b es. ElementsListed f below (Inside types below) id.0 b old es) before after
+          → (keep ≡ true → (s : State) → Covers s old → EachFits (FitsFrom s types below id.0) vs.items) → fault ≡ None → Lists (λ b es. ElementsListed f below (Inside types below) id.0 b old es) before after
           → Elements (SequenceOf eoc id unconstrained) (Ok out)
       elements_put vs out p w fits told listed = record {
         exact = (items w.0, (λ k. ap tree_of (p k) ∙ items_made keep vs w.0 w.1 k), (w.2 ∙ sym (count_items w.0), (w.0, refl, w.3)));
-        fits = λ k. subst (AreItems (EachFits (Fits types below id.0))) (sym (p k)) (are_items (EachFits (Fits types below id.0)) vs (fits k));
+        fits = λ k s v. subst (AreItems (EachFits (FitsFrom s types below id.0))) (sym (p k)) (are_items (EachFits (FitsFrom s types below id.0)) vs (fits k s v));
         rules = tt;
         told = told;
         itself = tt;
@@ -520,11 +522,11 @@ module _ (types : List «Type») (below : ℕ) (keep : Bool) where
       }
 
       pub set_of_put : (vs : Vec Value Global) (out : Value) → (keep ≡ true → out ≡ ElementsOf vs) → Counting keep trees_of IsLength (DecodesElementsInOrder (DecodesTree (f id.0)) these) old (Ok vs) new n
-          → (keep ≡ true → EachFits (Fits types below id.0) vs.items) → fault ≡ None → Lists (λ b es. ElementsListed f below (Inside types below) id.0 b old es) before after
+          → (keep ≡ true → (s : State) → Covers s old → EachFits (FitsFrom s types below id.0) vs.items) → fault ≡ None → Lists (λ b es. ElementsListed f below (Inside types below) id.0 b old es) before after
           → Elements (SetOf eoc id unconstrained) (Ok out)
       set_of_put vs out p w fits told listed = record {
         exact = (elements w.0, (λ k. ap tree_of (p k) ∙ elements_made keep vs w.0 w.1 k), (w.2 ∙ sym (count_items w.0), (w.0, refl, w.3)));
-        fits = λ k. subst (AreElements (EachFits (Fits types below id.0))) (sym (p k)) (are_elements (EachFits (Fits types below id.0)) vs (fits k));
+        fits = λ k s v. subst (AreElements (EachFits (FitsFrom s types below id.0))) (sym (p k)) (are_elements (EachFits (FitsFrom s types below id.0)) vs (fits k s v));
         rules = tt;
         told = told;
         itself = tt;

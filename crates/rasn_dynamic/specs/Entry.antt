@@ -13,6 +13,7 @@ use Rattle.rasn_de.specs.Outcomes.{Exact, Got, refusal}
 use Rattle.rasn.specs.Headline.{AnsweredAlone, EncodingFails}
 use Rattle.rasn.specs.Normal.{Means, IsNormal, IsNoNormal}
 use Rattle.rasn.specs.declared.normal.NormaliseError.{NormaliseError}
+use Rattle.rasn.specs.declared.normal.NormaliseError.TheVariants.{Decode as NotRead, Encode as NotWritten, NotCanonical}
 use Rattle.rasn_schema.specs.declared.types.«Type».{«Type»}
 use Rattle.rasn_schema.specs.Shapes.{shape_of_type}
 use Rattle.rasn_schema.specs.declared.value.Value.{Value}
@@ -88,6 +89,12 @@ IsReadBack false s t octets = (again : Tree) → Reads Der s 128 (top Der) octet
 -- Of each input that means the tree, these are the normal octets.
 abbrev pub IsNormalOf : Shape → Tree → List ℕ → Type 0
 IsNormalOf s t octets = (rule : Codec) (input : List ℕ) → Means rule s input t → IsNormal rule s input octets
+
+-- Memory runs out while the octets are read back by DER; or the error is of DER's writer; or they aren't canonical.
+abbrev pub IsByDer : NormaliseError → Type 0
+IsByDer (NotRead e) = IsOutOfMemory e.kind × (e.codec ≡ Der)
+IsByDer (NotWritten e) = e.codec ≡ Der
+IsByDer NotCanonical = Unit {0}
 
 -- No input that means the tree has normal octets, or memory runs out.
 abbrev pub IsNoNormalOf : Shape → Tree → NormaliseError → Type 0

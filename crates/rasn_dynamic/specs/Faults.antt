@@ -195,7 +195,7 @@ module _ (f : ℕ → Shape) where
 
   -- A value, with its header and its end, and the number of its elements.
   abbrev pub FailsItself : «Type» → State → DecodeError → Type 0
-  FailsItself (Leaf kind tag c names) s e = (new : State) × RunsOutOr (leaf_errors kind tag c) s e new
+  FailsItself (Leaf kind tag c names) s e = (new : State) × leaf_errors kind tag c s e new
   FailsItself (Enumerated tag ns) s e = (new : State) × FailsAtNumber (numbers_of ns.items) tag s e new
   FailsItself (Any tag) s e = (new : State) × errors_of (BorrowsOpenType tag) s e new
   FailsItself Unknown s e = (new : State) × RunsOutOr unknown_errors s e new

@@ -14,6 +14,7 @@ pub mod Faults
 pub mod Paths
 pub mod Parts
 pub mod Listed
+pub mod Times
 pub mod Readers
 pub mod Nested
 pub mod Walk
@@ -25,3 +26,4 @@ pub mod WorkedParts
 pub mod LeadsTo
 pub mod Shown
 pub mod WorkedFaults
+pub mod WorkedTimes

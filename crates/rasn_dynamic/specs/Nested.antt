@@ -11,7 +11,7 @@ use Rattle.rasn_schema.specs.declared.types.«Type».TheVariants.{Choice}
 use Rattle.rasn_schema.specs.declared.value.Value.{Value}
 use Rattle.rasn_schema.specs.Shapes.{shape_of_type, IsReadable}
 use Rattle.rasn_schema.specs.Trees.{tree_of}
-use Rattle.rasn_schema.specs.Fitting.{Fits, IsChosen}
+use Rattle.rasn_schema.specs.Fitting.{IsChosen}
 use Rattle.rasn_dynamic.specs.declared.nested.NextPart.{NextPart}
 use Rattle.rasn_dynamic.specs.declared.nested.OuterChoice.{OuterChoice}
 use Rattle.rasn_dynamic.specs.declared.nested.Nested.{Nested}
@@ -21,6 +21,7 @@ use Rattle.rasn_dynamic.specs.Inside.{DecodesTree}
 use Rattle.rasn_dynamic.specs.Making.{Making}
 use Rattle.rasn_dynamic.specs.Faults.{IsFaultIn, IsOnly, IsNextAlternative, IsMarked, IsStepped, FailsAt, TellsOf}
 use Rattle.rasn_dynamic.specs.Listed.{Lists, Inside, PartListed, IsNoted, IsFinished}
+use Rattle.rasn_dynamic.specs.Times.{Covers, FitsFrom}
 
 -- ---- a part whose type is a CHOICE
 
@@ -82,7 +83,7 @@ Descends types s outer before (Err e) new after = (spans : Spans) × LeadsInto t
 -- A value of the part's type is read as the part, which is listed with those inside it; or something in it is named.
 pub record ReadsPart (types : List «Type») (keep : Bool) (part : NextPart) (old : State) (before : Spans) (r : Result Value DecodeError) (new : State) (fault : Option UnreadValue) (after : Spans) : Type 0 where
   pub reads : Making keep tree_of (DecodesTree (shape_of_type types part.levels part.id.0)) old r new
-  pub fits : keep ≡ true → IfOk r (Fits types part.levels part.id.0)
+  pub fits : keep ≡ true → (s : State) → Covers s old → IfOk r (FitsFrom s types part.levels part.id.0)
   pub rules : IfErr r (λ e. e.codec ≡ old.rule)
   pub told : TellsOf (IsFaultIn types part.levels (IsOnly part.index part.id.0 old) old old) r fault
   pub listed : IfOk r (λ v. Lists (λ b es. PartListed (shape_of_type types part.levels) part.levels (Inside types part.levels) part.id.0 part.index b old new es) before after)

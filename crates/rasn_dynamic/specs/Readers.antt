@@ -8,7 +8,6 @@ use Rattle.rasn_schema.specs.declared.types.«Type».TheVariants.{Leaf, Enumerat
 use Rattle.rasn_schema.specs.declared.value.Value.{Value}
 use Rattle.rasn_schema.specs.Shapes.{shape_of_type, type_by}
 use Rattle.rasn_schema.specs.Trees.{tree_of}
-use Rattle.rasn_schema.specs.Fitting.{Fits, FitsBy}
 use Rattle.rasn_dynamic.specs.declared.walk.Refused.{Refused}
 use Rattle.rasn_dynamic.specs.declared.trace.UnreadValue.{UnreadValue}
 use Rattle.rasn_dynamic.specs.declared.span.Spans.{Spans}
@@ -17,6 +16,7 @@ use Rattle.rasn_dynamic.specs.Making.{Making}
 use Rattle.rasn_dynamic.specs.Typed.{element_count, IsSized, DecodesContents, DecodesType}
 use Rattle.rasn_dynamic.specs.Faults.{IsFaultIn, IsFaultOf, IsAnyPart, IsMoved, Told, StopsInside, FailsItself}
 use Rattle.rasn_dynamic.specs.Listed.{Lists, Inside, ContentsListed, ValueListed}
+use Rattle.rasn_dynamic.specs.Times.{Covers, FitsFromBy, FitsFrom}
 
 -- The outcome is passed on. If it is that contents weren't read, n octets after them are counted.
 abbrev pub IsCounted : ℕ → Result ℕ Refused → Option UnreadValue → Result ℕ Refused → Option UnreadValue → Type 0
@@ -61,13 +61,13 @@ IsSizedAs (Set name tag ps) s n r = r ≡ Ok tt
 IsSizedAs (SequenceOf tag k c) s n r = IsSized c s n r
 IsSizedAs (SetOf tag k c) s n r = IsSized c s n r
 
--- The contents of a value of the type are read as `read` says. A value that is kept fits the type. An error is by the
+-- The contents of a value of the type are read as `read` says. A value that is kept fits the type, with its times. An error is by the
 -- same rules; what is named then is a part that can't be read, and if nothing is, each part is read. The parts inside
 -- are listed.
 pub record ReadsContents (types : List «Type») (below : ℕ) (keep : Bool) (ty : «Type») (read : Call Tree)
     (old : State) (before : Spans) (r : Result Value DecodeError) (new : State) (fault : Option UnreadValue) (after : Spans) : Type 0 where
   pub exact : Making keep tree_of read old r new
-  pub fits : keep ≡ true → IfOk r (FitsBy (Fits types below) ty)
+  pub fits : keep ≡ true → (s : State) → Covers s old → IfOk r (FitsFromBy s (FitsFrom s types below) ty)
   pub rules : IfErr r (λ e. e.codec ≡ old.rule)
   pub told : Told (IsFaultIn types below (IsAnyPart (shape_of_type types below) ty old) old old) r fault
   pub itself : IfErr r (λ e. fault ≡ None → StopsInside (shape_of_type types below) ty old e)
@@ -78,7 +78,7 @@ pub record ReadsType (types : List «Type») (below : ℕ) (keep : Bool) (ty : �
     (old : State) (before : Spans) (r : Result Value DecodeError) (new : State) (fault : Option UnreadValue) (after : Spans) : Type 0 where
   pub exact : Making keep tree_of (DecodesType (shape_of_type types below) ty) old r new
   pub reads : Making keep tree_of (DecodesTree (type_by (shape_of_type types below) ty)) old r new
-  pub fits : keep ≡ true → IfOk r (FitsBy (Fits types below) ty)
+  pub fits : keep ≡ true → (s : State) → Covers s old → IfOk r (FitsFromBy s (FitsFrom s types below) ty)
   pub rules : IfErr r (λ e. e.codec ≡ old.rule)
   pub told : Told (IsFaultOf types below ty old) r fault
   pub itself : IfErr r (λ e. fault ≡ None → FailsItself (shape_of_type types below) ty old e)

@@ -6,12 +6,14 @@ ghost use Rattle.rasn_types.specs.Errors.{IsOutOfMemory};
 ghost use Rattle.rasn_types.specs.Framing.{AreOctets};
 ghost use Rattle.rasn_types.specs.Truth.{IsWhether};
 ghost use Rattle.rasn_types.specs.declared.types.codec.Codec.TheVariants.{Der};
-ghost use Rattle.rasn.specs.Headline.{Answered, AnsweredAlone, IsAsWritten, Identify};
-ghost use Rattle.rasn.specs.Normal.{IsNormal, IsNoNormal, IsIdentified, IsKept, IsUnchanged, IsAnswered};
+ghost use Rattle.rasn_de.specs.State.{IsEnd};
+ghost use Rattle.rasn.specs.Headline.{Answered, AnsweredAlone, ConsumesWritten, IsAsWritten, Identify};
+ghost use Rattle.rasn.specs.Normal.{IsNormal, IsNoNormal, IsIdentified, IsKept, IsUnchanged, IsAnswered, IsByRules};
 ghost use Rattle.rasn_enc.specs.Primitive.{IsAllocError};
 ghost use Rattle.rasn_schema.specs.Trees.{tree_of};
-ghost use Rattle.rasn_dynamic.specs.Entry.{IsEncoded, IsNotEncoded, FailsIfFits, NamesRules, IsReadBack, IsNormalOf, IsNoNormalOf, FitsType, IsChecked, Agree, shape_of};
-ghost use Rattle.rasn_dynamic.specs.Refusals.{FailsSomewhere, FailsWhole};
+ghost use Rattle.rasn_dynamic.specs.Entry.{IsEncoded, IsNotEncoded, FailsIfFits, NamesRules, IsReadBack, IsNormalOf, IsNoNormalOf, IsByDer, FitsType, IsChecked, Agree, shape_of};
+ghost use Rattle.rasn_dynamic.specs.Refusals.{FailsSomewhere, FailsWhole, IsReadingError};
+ghost use Rattle.rasn_dynamic.specs.Times.{HasItsTimes};
 
 use crate::locate::{check_or_locate, decode_or_locate};
 use crate::path::ValuePath;
@@ -48,6 +50,9 @@ pub fn decode_with_remainder<'input>(
 ) -> Result<(Value<'input>, &'input [u8]), DecodeError>
     ensures exact { Answered rule (shape_of schema.now.types.items id.0) tree_of input.now result }
     ensures fits { IfOk result (λ read. FitsType schema.now.types.items id.0 read.0) }
+    ensures times { IfOk result (λ read. HasItsTimes schema.now.types.items rule id.0 input.now read.0) }
+    ensures end { IfOk result (λ read. IsEnd input.now read.1.now) }
+    ensures written { rule ≡ Der → ConsumesWritten (shape_of schema.now.types.items id.0) tree_of input.now result }
     ensures fails { IfErr result (FailsSomewhere schema.now.types.items rule id.0 input.now) }
     ensures rules { IfErr result (λ e. e.codec ≡ rule) }
 {
@@ -83,6 +88,7 @@ pub fn decode<'input>(
     ensures exact { AnsweredAlone rule (shape_of schema.now.types.items id.0) tree_of input.now result }
     ensures written { rule ≡ Der → IsAsWritten (shape_of schema.now.types.items id.0) tree_of input.now result }
     ensures fits { IfOk result (λ v. FitsType schema.now.types.items id.0 v) }
+    ensures times { IfOk result (λ v. HasItsTimes schema.now.types.items rule id.0 input.now v) }
     ensures fails { IfErr result (FailsWhole schema.now.types.items rule id.0 input.now) }
     ensures rules { IfErr result (λ e. e.codec ≡ rule) }
 {
@@ -322,6 +328,8 @@ pub fn normalise(
     ensures unchanged { IfOk result (λ octets. IsUnchanged rule (shape_of schema.now.types.items id.0) input.now octets.items) }
     ensures answered { IfErr result (λ error. IsAnswered rule (shape_of schema.now.types.items id.0) input.now error) }
     ensures fails { IfErr result (λ error. IsNoNormal rule (shape_of schema.now.types.items id.0) input.now error) }
+    ensures errors { IfErr result (IsReadingError schema.now.types.items rule id.0 input.now) }
+    ensures rules { IfErr result (λ error. IsByRules rule error) }
 {
     convert(alloc, rule, schema, id, input)
 }
@@ -337,6 +345,8 @@ fn convert(
     ensures normal { IfOk result (λ octets. IsNormal rule (shape_of schema.now.types.items id.0) input.now octets.items) }
     ensures octets { IfOk result (λ octets. AreOctets octets.items) }
     ensures fails { IfErr result (λ error. IsNoNormal rule (shape_of schema.now.types.items id.0) input.now error) }
+    ensures errors { IfErr result (IsReadingError schema.now.types.items rule id.0 input.now) }
+    ensures rules { IfErr result (λ error. IsByRules rule error) }
 {
     match decode(alloc, rule, schema, id, input) {
         Ok(value) => write_normal(alloc, schema, id, &value),
@@ -355,6 +365,7 @@ fn write_normal(
     ensures normal { IfOk result (λ octets. IsNormalOf (shape_of schema.now.types.items id.0) (tree_of value.now) octets.items) }
     ensures octets { IfOk result (λ octets. AreOctets octets.items) }
     ensures fails { IfErr result (IsNoNormalOf (shape_of schema.now.types.items id.0) (tree_of value.now)) }
+    ensures rules { IfErr result IsByDer }
 {
     match write(alloc, Codec::Der, schema, id, value, Vec::new(alloc)) {
         Ok(octets) => match is_read_back(alloc, schema, id, value, &octets) {
@@ -384,6 +395,7 @@ fn is_read_back(
     ensures ok { IfOk result (λ answer. IsReadBack answer (shape_of schema.now.types.items id.0) (tree_of value.now) octets.now) }
     ensures octets { AreOctets octets.now }
     ensures memory_alone { IfErr result (λ e. IsOutOfMemory e.kind) }
+    ensures rules { IfErr result (λ e. e.codec ≡ Der) }
 {
     match decode(alloc, Codec::Der, schema, id, octets) {
         Ok(again) => Ok(again.means_same(value)),

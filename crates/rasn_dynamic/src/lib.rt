@@ -37,7 +37,7 @@ mod writer;
 pub use entry::{
     WriteError, check, decode, decode_with_remainder, encode, encode_buf, is_canonical, normalise,
 };
-pub use facts::{parts_determined, worked_faults, worked_parts, worked_places};
+pub use facts::{parts_determined, worked_faults, worked_parts, worked_places, worked_times};
 pub use find::find_part;
 pub use leads_to::component_at;
 pub use locate::{check_or_locate, decode_or_locate};

@@ -1,11 +1,13 @@
 //! Reading a value, with the place where it can't be read.
 ghost use Rattle.std.specs.Prelude.{◌≡◌, ◌≤◌, ◌<◌, ◌^◌, length, true, Some, IfOk, IfErr};
 ghost use Rattle.rasn_types.specs.Errors.{IsOutOfMemory};
+ghost use Rattle.rasn_de.specs.State.{IsEnd};
 ghost use Rattle.rasn.specs.Headline.{Answered};
 ghost use Rattle.rasn_schema.specs.Trees.{tree_of};
 ghost use Rattle.rasn_dynamic.specs.Entry.{FitsType, IsCheckedUpTo, IsReadFirst, shape_of};
 ghost use Rattle.rasn_dynamic.specs.Faults.{IsLocated, IsRefusalOf, start, unlocated};
 ghost use Rattle.rasn_dynamic.specs.Listed.{Lists, PartsInside};
+ghost use Rattle.rasn_dynamic.specs.Times.{HasItsTimes};
 ghost use Rattle.rasn_dynamic.specs.declared.trace.UnreadValue.{UnreadValue};
 
 use crate::made::{Made, Nothing, Values};
@@ -86,7 +88,7 @@ pub(crate) fn read_first<'input, M: Made>(
     spans: &mut Spans<'input>,
 ) -> Result<(Value<'input>, &'input [u8]), Refusal>
     ensures read { IsReadFirst M.KEEP rule (shape_of schema.now.types.items id.0) input.now result }
-    ensures fits { M.KEEP ≡ true → IfOk result (λ read. FitsType schema.now.types.items id.0 read.0) }
+    ensures times { M.KEEP ≡ true → IfOk result (λ read. HasItsTimes schema.now.types.items rule id.0 input.now read.0) }
     ensures rules { IfErr result (λ r. r.error.codec ≡ rule) }
     ensures located { IfErr result (IsLocated schema.now.types.items rule id.0 input.now) }
     ensures listed { IfOk result (λ read. Lists (λ b es. PartsInside schema.now.types.items 18446744073709551615 id.0 b (start rule input.now) es) spans.old spans.new) }
@@ -130,6 +132,8 @@ pub fn decode_or_locate<'input>(
 ) -> Result<(Value<'input>, &'input [u8]), Refusal>
     ensures exact { Answered rule (shape_of schema.now.types.items id.0) tree_of input.now (unlocated result) }
     ensures fits { IfOk result (λ read. FitsType schema.now.types.items id.0 read.0) }
+    ensures times { IfOk result (λ read. HasItsTimes schema.now.types.items rule id.0 input.now read.0) }
+    ensures end { IfOk result (λ read. IsEnd input.now read.1.now) }
     ensures rules { IfErr result (λ r. r.error.codec ≡ rule) }
     ensures located { IfErr result (IsLocated schema.now.types.items rule id.0 input.now) }
 {
@@ -155,6 +159,7 @@ pub fn check_or_locate<'input>(
     input: &'input [u8],
 ) -> Result<&'input [u8], Refusal>
     ensures exact { IsCheckedUpTo rule (shape_of schema.now.types.items id.0) input.now (unlocated result) }
+    ensures end { IfOk result (λ rest. IsEnd input.now rest.now) }
     ensures rules { IfErr result (λ r. r.error.codec ≡ rule) }
     ensures located { IfErr result (IsLocated schema.now.types.items rule id.0 input.now) }
 {

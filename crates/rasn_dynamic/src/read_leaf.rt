@@ -3,7 +3,7 @@ ghost use Rattle.std.specs.Prelude.{◌≡◌, true, ◌++◌, ◌∷◌, [], On
 ghost use Rattle.rasn_types.specs.Errors.{IsOutOfMemory};
 ghost use Rattle.rasn_types.specs.Numbered.{fit_isize};
 ghost use Rattle.rasn_types.specs.CharacterString.{string_kind};
-ghost use Rattle.rasn_types.specs.Shapes.{leaf, any, unknown, looked_for, boolean, fixed, integer, every, enumerated, object_identifier, bit_string, named_bits, octet_string, bmp, utf8, utc_time, generalized_time, date};
+ghost use Rattle.rasn_types.specs.Shapes.{leaf, any, unknown, looked_for, boolean, fixed, integer, every, enumerated, object_identifier, bit_string, named_bits, octet_string, bmp, universal, utf8, real, time_text, time_digits, utc_time, generalized_time, date};
 ghost use Rattle.rasn_types.specs.Trees.{unconstrained};
 ghost use Rattle.rasn_types.specs.Truth.{IsWhether};
 ghost use Rattle.rasn_de.specs.Decodes.{Decodes};
@@ -11,10 +11,14 @@ ghost use Rattle.rasn_de.specs.Checks.{Checks};
 ghost use Rattle.rasn_de.specs.Steps.{IsErrorOf};
 ghost use Rattle.rasn_dynamic.specs.Inside.{DecodesTree};
 ghost use Rattle.rasn_dynamic.specs.Making.{Making, outcome, reported};
-ghost use Rattle.rasn_de.specs.declared.ber.de.parser.ParseError.TheVariants.{OutOfMemory, SizeConstraintNotSatisfied};
+ghost use Rattle.rasn_dynamic.specs.Times.{KeepsOffset};
+ghost use Rattle.rasn_de.specs.declared.ber.de.parser.ParseError.TheVariants.{OutOfMemory, SizeConstraintNotSatisfied, StringConversionFailed};
+ghost use Rattle.rasn_types.specs.Tags.{in_universal};
+ghost use Rattle.rasn_types.specs.Contents.{IsTimeText, AreTimeDigits};
+ghost use Rattle.rasn_schema.specs.KindNames.{names_of};
 ghost use Rattle.rasn_schema.specs.Trees.{tree_of};
 ghost use Rattle.rasn_schema.specs.Shapes.{kind_of, numbers_of};
-ghost use Rattle.rasn_schema.specs.declared.types.LeafKind.TheVariants.{Boolean as BooleanKind, FixedOctetString as FixedKind, UtcTime as UtcTimeKind};
+ghost use Rattle.rasn_schema.specs.declared.types.LeafKind.TheVariants.{Boolean as BooleanKind, FixedOctetString as FixedKind, UtcTime as UtcTimeKind, Universal as UniversalKind, Real as RealKind};
 ghost use Rattle.rasn_dynamic.specs.Calls.{IsNumberIn, IsStringOf, FailsAtNumber, FailsAtFixed};
 ghost use Rattle.rasn_schema.specs.Fitting.{FitsLeaf, IsNumber, AreOctets, AreItems, EachFits};
 ghost use Rattle.rasn_types.specs.Grammar.{UtcText, GeneralizedText};
@@ -27,20 +31,23 @@ ghost use Rattle.rasn_de.specs.NamedBits.{DecodesNamedBits};
 ghost use Rattle.rasn_de.specs.ObjectIdentifier.{DecodesObjectIdentifier};
 ghost use Rattle.rasn_de.specs.Time.{AtAnyOffset, DecodesTime};
 ghost use Rattle.rasn_de.specs.ValueErrors.{errors_of, integer_errors};
-ghost use Rattle.rasn_dynamic.specs.LeafErrors.{string_errors, leaf_errors, unknown_errors, RunsOutOr};
+ghost use Rattle.rasn_dynamic.specs.LeafErrors.{string_errors, contents_errors, ByQuads, IsAnyReal, leaf_errors, unknown_errors, RunsOutOr};
 
 use crate::made::Made;
 use crate::walk::{Refused, kept};
 use rasn_de::ber::de::Decoder;
 use rasn_de::de::Decode;
-use rasn_schema::{LeafKind, NamedNumber, Value};
+use rasn_schema::{
+    LeafKind, NamedNumber, Value, are_time_digits, canonical_real, is_canonical_real, is_time_text,
+    universal_text,
+};
 use rasn_types::error::{DecodeError, DecodeErrorKind};
 use rasn_types::types::{
-    Alphabet, Bounded, Constraints, Date, GeneralizedTime, Integer, IntegerType, LONGEST_NUMBER,
-    ObjectIdentifier, Tag, UtcTime,
+    Alphabet, Bounded, Class, Codec, Constraints, Date, GeneralizedTime, Integer, IntegerType,
+    LONGEST_NUMBER, ObjectIdentifier, Tag, UtcTime,
 };
 use std::alloc::{AllocError, Global};
-use std::borrow::CowSlice;
+use std::borrow::{CowSlice, CowStr};
 
 /// Returns the error that memory ran out.
 pub(crate) fn out_of_memory(decoder: &Decoder<'_>) -> DecodeError
@@ -166,6 +173,7 @@ fn decode_utc_time<'input>(
 ) -> Result<Value<'input>, DecodeError>
     ensures reads { Decodes (leaf utc_time tag constraints.now) tree_of decoder.old result decoder.new }
     ensures fits { IfOk result (λ v. FitsLeaf UtcTimeKind v) }
+    ensures offset { IfOk result (λ v. KeepsOffset UtcTimeKind tag decoder.old v decoder.new) }
     ensures fails { IfErr result (λ e. errors_of (DecodesTime (AtAnyOffset (UtcText decoder.old.rule)) tag) decoder.old e decoder.new) }
     ensures rules { IfErr result (λ e. e.codec ≡ decoder.old.rule) }
 {
@@ -173,6 +181,112 @@ fn decode_utc_time<'input>(
     match GeneralizedTime::new(time, 0) {
         Some(time) => Ok(Value::Instant(time)),
         None => unreachable!(),
+    }
+}
+
+/// Returns the error that octets mean nothing of a kind.
+fn not_converted(decoder: &Decoder<'_>, kind: LeafKind) -> DecodeError
+    ensures { IsErrorOf (StringConversionFailed (in_universal (names_of kind).number)) decoder.now result }
+{
+    DecodeError {
+        kind: DecodeErrorKind::StringConversionFailed {
+            tag: Tag {
+                class: Class::Universal,
+                value: kind.names().number,
+            },
+        },
+        codec: decoder.codec(),
+    }
+}
+
+/// Reads a UniversalString, four octets a character (X.690 8.23.7).
+fn decode_universal<'input>(
+    decoder: &mut Decoder<'input>,
+    tag: Tag,
+    constraints: &Constraints,
+) -> Result<Value<'input>, DecodeError>
+    ensures reads { Decodes (leaf universal tag constraints.now) tree_of decoder.old result decoder.new }
+    ensures fits { IfOk result (λ v. FitsLeaf UniversalKind v) }
+    ensures fails { IfErr result (λ e. RunsOutOr (string_errors (ByQuads constraints.now.size) tag) decoder.old e decoder.new) }
+    ensures rules { IfErr result (λ e. e.codec ≡ decoder.old.rule) }
+{
+    let octets = decoder.decode_octet_string(tag, &Constraints::NONE)?;
+    let text = match universal_text(decoder.alloc(), octets.as_slice()) {
+        Ok(Some(text)) => text,
+        Ok(None) => return Err(not_converted(decoder, LeafKind::Universal)),
+        Err(_) => return Err(out_of_memory(decoder)),
+    };
+    let size = octets.len() / 4;
+    if constraints.admits_size(size) {
+        Ok(Value::Text(CowStr::Owned(text)))
+    } else {
+        Err(wrong_size(decoder, size, constraints.size_bounds()))
+    }
+}
+
+/// Reads a REAL. Its value has the octets of canonical rules, under which there are no others (X.690
+/// 8.5, 11.3).
+fn decode_real<'input>(
+    decoder: &mut Decoder<'input>,
+    tag: Tag,
+) -> Result<Value<'input>, DecodeError>
+    ensures reads { Decodes (leaf real tag unconstrained) tree_of decoder.old result decoder.new }
+    ensures fits { IfOk result (λ v. FitsLeaf RealKind v) }
+    ensures fails { IfErr result (λ e. RunsOutOr (contents_errors IsAnyReal 9 tag) decoder.old e decoder.new) }
+    ensures rules { IfErr result (λ e. e.codec ≡ decoder.old.rule) }
+{
+    let contents = decoder.contents(tag)?;
+    if is_canonical_real(contents) {
+        return Ok(Value::Octets(CowSlice::Borrowed(contents)));
+    }
+    let Codec::Ber = decoder.codec() else {
+        return Err(not_converted(decoder, LeafKind::Real));
+    };
+    match canonical_real(decoder.alloc(), contents) {
+        Ok(Some(canonical)) => Ok(Value::Octets(CowSlice::Owned(canonical))),
+        Ok(None) => Err(not_converted(decoder, LeafKind::Real)),
+        Err(_) => Err(out_of_memory(decoder)),
+    }
+}
+
+/// Reads the characters of a time (X.690 8.26).
+fn decode_time_text<'input>(
+    decoder: &mut Decoder<'input>,
+    kind: LeafKind,
+    tag: Tag,
+) -> Result<Value<'input>, DecodeError>
+    requires { kind_of kind ≡ time_text }
+    ensures reads { Decodes (leaf time_text tag unconstrained) tree_of decoder.old result decoder.new }
+    ensures fits { IfOk result (λ v. FitsLeaf kind v) }
+    ensures fails { IfErr result (λ e. contents_errors (λ rule. IsTimeText) (names_of kind).number tag decoder.old e decoder.new) }
+    ensures rules { IfErr result (λ e. e.codec ≡ decoder.old.rule) }
+{
+    let contents = decoder.contents(tag)?;
+    if is_time_text(contents) {
+        Ok(Value::Octets(CowSlice::Borrowed(contents)))
+    } else {
+        Err(not_converted(decoder, kind))
+    }
+}
+
+/// Reads the digits of a time, of which there are so many (X.690 8.26).
+fn decode_time_digits<'input>(
+    decoder: &mut Decoder<'input>,
+    kind: LeafKind,
+    count: usize,
+    tag: Tag,
+) -> Result<Value<'input>, DecodeError>
+    requires { kind_of kind ≡ time_digits count }
+    ensures reads { Decodes (leaf (time_digits count) tag unconstrained) tree_of decoder.old result decoder.new }
+    ensures fits { IfOk result (λ v. FitsLeaf kind v) }
+    ensures fails { IfErr result (λ e. contents_errors (λ rule. AreTimeDigits count) (names_of kind).number tag decoder.old e decoder.new) }
+    ensures rules { IfErr result (λ e. e.codec ≡ decoder.old.rule) }
+{
+    let contents = decoder.contents(tag)?;
+    if are_time_digits(count, contents) {
+        Ok(Value::Octets(CowSlice::Borrowed(contents)))
+    } else {
+        Err(not_converted(decoder, kind))
     }
 }
 
@@ -185,7 +299,8 @@ fn decode_leaf<'input>(
 ) -> Result<Value<'input>, DecodeError>
     ensures reads { Decodes (leaf (kind_of kind) tag bounds.now) tree_of decoder.old result decoder.new }
     ensures fits { IfOk result (λ v. FitsLeaf kind v) }
-    ensures fails { IfErr result (λ e. RunsOutOr (leaf_errors kind tag bounds.now) decoder.old e decoder.new) }
+    ensures offset { IfOk result (λ v. KeepsOffset kind tag decoder.old v decoder.new) }
+    ensures fails { IfErr result (λ e. leaf_errors kind tag bounds.now decoder.old e decoder.new) }
     ensures rules { IfErr result (λ e. e.codec ≡ decoder.old.rule) }
 {
     match kind {
@@ -224,6 +339,15 @@ fn decode_leaf<'input>(
         LeafKind::Date => Ok(Value::Day(Date::decode_with_tag_and_constraints(
             decoder, tag, bounds,
         )?)),
+        LeafKind::Universal => decode_universal(decoder, tag, bounds),
+        LeafKind::RelativeOid => Ok(Value::Arcs(ObjectIdentifier::decode_with_tag_and_constraints(
+            decoder, tag, bounds,
+        )?)),
+        LeafKind::Real => decode_real(decoder, tag),
+        LeafKind::Time => decode_time_text(decoder, LeafKind::Time, tag),
+        LeafKind::Duration => decode_time_text(decoder, LeafKind::Duration, tag),
+        LeafKind::TimeOfDay => decode_time_digits(decoder, LeafKind::TimeOfDay, 6, tag),
+        LeafKind::DateTime => decode_time_digits(decoder, LeafKind::DateTime, 14, tag),
     }
 }
 
@@ -486,7 +610,7 @@ fn check_by_value(
     bounds: &Constraints,
 ) -> Result<(), Refused>
     ensures reads { Checks (leaf (kind_of kind) tag bounds.now) decoder.old (reported result error.new) decoder.new }
-    ensures fails { IfErr (reported result error.new) (λ e. RunsOutOr (leaf_errors kind tag bounds.now) decoder.old e decoder.new) }
+    ensures fails { IfErr (reported result error.new) (λ e. leaf_errors kind tag bounds.now decoder.old e decoder.new) }
     ensures rules { IfErr (reported result error.new) (λ e. e.codec ≡ decoder.old.rule) }
 {
     match decode_leaf(decoder, kind, tag, bounds) {
@@ -502,7 +626,8 @@ fn check_by_value(
 }
 
 /// Checks a value that holds no other values. Nothing is allocated, except for a time in segments
-/// that is longer than 32 octets and for the copy of a text that is no time, in its error.
+/// that is longer than 32 octets, for the copy of a text that is no time, in its error, for a
+/// UniversalString, and for a REAL in other octets than canonical rules have.
 ///
 /// # Errors
 /// As [`decode_leaf`], except `OutOfMemory` for the value.
@@ -515,11 +640,12 @@ fn check_leaf(
     bounds: &Constraints,
 ) -> Result<(), Refused>
     ensures reads { Checks (leaf (kind_of kind) tag bounds.now) decoder.old (reported result error.new) decoder.new }
-    ensures fails { IfErr (reported result error.new) (λ e. RunsOutOr (leaf_errors kind tag bounds.now) decoder.old e decoder.new) }
+    ensures fails { IfErr (reported result error.new) (λ e. leaf_errors kind tag bounds.now decoder.old e decoder.new) }
     ensures rules { IfErr (reported result error.new) (λ e. e.codec ≡ decoder.old.rule) }
 {
     match kind {
         LeafKind::ObjectIdentifier => check_arcs(decoder, error, tag),
+        LeafKind::RelativeOid => check_arcs(decoder, error, tag),
         LeafKind::Integer => check_integer(decoder, error, tag, bounds),
         LeafKind::BitString => check_bits(decoder, error, tag, bounds),
         LeafKind::NamedBits => check_named_bits(decoder, error, tag, bounds),
@@ -577,7 +703,8 @@ fn make_leaf<'input>(
 ) -> Result<(), Refused>
     ensures reads { Decodes (leaf (kind_of kind) tag bounds.now) tree_of decoder.old (outcome result out.new error.new) decoder.new }
     ensures fits { IfOk (outcome result out.new error.new) (λ v. FitsLeaf kind v) }
-    ensures fails { IfErr (outcome result out.new error.new) (λ e. RunsOutOr (leaf_errors kind tag bounds.now) decoder.old e decoder.new) }
+    ensures offset { IfOk (outcome result out.new error.new) (λ v. KeepsOffset kind tag decoder.old v decoder.new) }
+    ensures fails { IfErr (outcome result out.new error.new) (λ e. leaf_errors kind tag bounds.now decoder.old e decoder.new) }
     ensures rules { IfErr (outcome result out.new error.new) (λ e. e.codec ≡ decoder.old.rule) }
 {
     if let LeafKind::Boolean = kind {
@@ -608,7 +735,8 @@ pub fn put_leaf<'input, M: Made>(
 ) -> Result<(), Refused>
     ensures reads { Making M.KEEP tree_of (DecodesTree (leaf (kind_of kind) tag bounds.now)) decoder.old (outcome result out.new error.new) decoder.new }
     ensures fits { M.KEEP ≡ true → IfOk (outcome result out.new error.new) (λ v. FitsLeaf kind v) }
-    ensures fails { IfErr (outcome result out.new error.new) (λ e. RunsOutOr (leaf_errors kind tag bounds.now) decoder.old e decoder.new) }
+    ensures offset { M.KEEP ≡ true → IfOk (outcome result out.new error.new) (λ v. KeepsOffset kind tag decoder.old v decoder.new) }
+    ensures fails { IfErr (outcome result out.new error.new) (λ e. leaf_errors kind tag bounds.now decoder.old e decoder.new) }
     ensures rules { IfErr (outcome result out.new error.new) (λ e. e.codec ≡ decoder.old.rule) }
 {
     if M::KEEP {

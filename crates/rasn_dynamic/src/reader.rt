@@ -3,6 +3,7 @@ ghost use Rattle.std.specs.Prelude.{◌≡◌, ◌≢◌, ◌⊎◌, ◌<◌, �
 ghost use Rattle.rasn_types.specs.Framing.{Ended, NextTag};
 ghost use Rattle.rasn_types.specs.Errors.{IsOutOfMemory};
 ghost use Rattle.rasn_types.specs.Shapes.{any, unknown as unknown_values, items, sought_by};
+ghost use Rattle.rasn_de.specs.State.{State};
 ghost use Rattle.rasn_de.specs.Decodes.{Decodes, DecodesBy};
 ghost use Rattle.rasn_de.specs.SequenceOf.{DecodesElements, DecodesElementsInOrder};
 ghost use Rattle.rasn_de.specs.Optional.{NextIs};
@@ -26,10 +27,11 @@ ghost use Rattle.rasn_dynamic.specs.Nested.{ReadsPart, ReadsWithin};
 ghost use Rattle.rasn_dynamic.specs.Making.{Making, Counting, IsLength, outcome, reported, trees_of, these};
 ghost use Rattle.rasn_dynamic.specs.Typed.{HoldsOthers, IsSized, MayRunOut, DecodesContents};
 ghost use Rattle.rasn_dynamic.specs.Calls.{Gathers, any_required, is_required, IsMade, AreSettled, nones, names_of, IsAppended, DecodesPresent, DecodesMember, IsNoAlternative, IsNoMember};
-ghost use Rattle.rasn_schema.specs.Fitting.{Fits, IsChosen, AlternativeFits, ComponentFits, ComponentsFit, EachFits, AreOctets as AreOctetsValue};
+ghost use Rattle.rasn_schema.specs.Fitting.{IsChosen, AlternativeFits, ComponentFits, ComponentsFit, EachFits, AreOctets as AreOctetsValue};
 ghost use Rattle.rasn_dynamic.specs.Found.{FoundFit, MembersFit};
 ghost use Rattle.rasn_dynamic.specs.Faults.{IsFault, IsFaultIn, IsOnly, IsAlternativeAt, IsElementAt, IsComponentAt, IsMemberHere, IsMemberAfter, Told, TellsOf, FailsAt, StopsAtChoice, StopsInElements, StopsInOrder, StopsInSequence, StopsAtComponent, IsDefaultWritten, StopsInSet, StopsAtMember};
 ghost use Rattle.rasn_dynamic.specs.Listed.{Lists, Inside, PartsInside, PartListed, UnknownListed, AlternativeListed, ElementsListed, ComponentsListed, ComponentListed, MembersListed, MemberListed};
+ghost use Rattle.rasn_dynamic.specs.Times.{Covers, FitsFrom};
 
 use crate::components::{is_always_there, leaves_all_out, missing};
 use crate::made::Made;
@@ -286,7 +288,7 @@ pub fn decode_at<'input, M: Made>(
     requires clear { walk.old.fault ≡ None }
     ensures reads { Making M.KEEP tree_of (DecodesTree (shape_of_type types.now.list.now types.now.levels id.0)) decoder.old (outcome result out.new walk.new.error) decoder.new }
     ensures nothing { IfErr (outcome result out.new walk.new.error) (λ e. None ≡ slice_get types.now.list.now id.0 → IsErrorOf UnexpectedEmptyInput decoder.old e × (decoder.new ≡ decoder.old)) }
-    ensures fits { M.KEEP ≡ true → IfOk (outcome result out.new walk.new.error) (λ v. Fits types.now.list.now types.now.levels id.0 v) }
+    ensures fits { M.KEEP ≡ true → (s : State) → Covers s decoder.old → IfOk (outcome result out.new walk.new.error) (λ v. FitsFrom s types.now.list.now types.now.levels id.0 v) }
     ensures rules { IfErr (outcome result out.new walk.new.error) (λ e. e.codec ≡ decoder.old.rule) }
     ensures told { TellsOf (IsFault types.now.list.now types.now.levels id.0 decoder.old) (outcome result out.new walk.new.error) walk.new.fault }
     ensures listed { IfOk (outcome result out.new walk.new.error) (λ v. Lists (λ b es. PartsInside types.now.list.now types.now.levels id.0 b decoder.old es) walk.old.spans walk.new.spans) }
@@ -324,7 +326,7 @@ pub fn decode_part<'input, M: Made>(
     requires lawful { IsReadable (shape_of_type types.now.list.now types.now.levels id.0) }
     requires clear { walk.old.fault ≡ None }
     ensures reads { Making M.KEEP tree_of (DecodesTree (shape_of_type types.now.list.now types.now.levels id.0)) decoder.old (outcome result out.new walk.new.error) decoder.new }
-    ensures fits { M.KEEP ≡ true → IfOk (outcome result out.new walk.new.error) (λ v. Fits types.now.list.now types.now.levels id.0 v) }
+    ensures fits { M.KEEP ≡ true → (s : State) → Covers s decoder.old → IfOk (outcome result out.new walk.new.error) (λ v. FitsFrom s types.now.list.now types.now.levels id.0 v) }
     ensures rules { IfErr (outcome result out.new walk.new.error) (λ e. e.codec ≡ decoder.old.rule) }
     ensures told { TellsOf (IsFaultIn types.now.list.now types.now.levels (IsOnly index id.0 decoder.old) decoder.old decoder.old) (outcome result out.new walk.new.error) walk.new.fault }
     ensures listed { IfOk (outcome result out.new walk.new.error) (λ v. Lists (λ b es. PartListed (shape_of_type types.now.list.now types.now.levels) types.now.levels (Inside types.now.list.now types.now.levels) id.0 index b decoder.old decoder.new es) walk.old.spans walk.new.spans) }
@@ -357,7 +359,7 @@ fn decode_compared<'input, M: Made>(
     requires lawful { IsReadable (shape_of_type types.now.list.now types.now.levels id.0) }
     requires clear { walk.old.fault ≡ None }
     ensures reads { Making true tree_of (DecodesTree (shape_of_type types.now.list.now types.now.levels id.0)) decoder.old (outcome result out.new walk.new.error) decoder.new }
-    ensures fits { IfOk (outcome result out.new walk.new.error) (λ v. Fits types.now.list.now types.now.levels id.0 v) }
+    ensures fits { (s : State) → Covers s decoder.old → IfOk (outcome result out.new walk.new.error) (λ v. FitsFrom s types.now.list.now types.now.levels id.0 v) }
     ensures rules { IfErr (outcome result out.new walk.new.error) (λ e. e.codec ≡ decoder.old.rule) }
     ensures told { TellsOf (IsFaultIn types.now.list.now types.now.levels (IsOnly index id.0 decoder.old) decoder.old decoder.old) (outcome result out.new walk.new.error) walk.new.fault }
     ensures listed { IfOk (outcome result out.new walk.new.error) (λ v. Lists (λ b es. PartListed (shape_of_type types.now.list.now types.now.levels) types.now.levels (Inside types.now.list.now types.now.levels) id.0 index b decoder.old decoder.new es) walk.old.spans walk.new.spans) }
@@ -509,7 +511,7 @@ fn decode_choice<'input, M: Made>(
     requires lawful { IsReadable (choice_among (alternatives_by (shape_of_type types.now.list.now types.now.levels) alternatives.now)) }
     requires clear { walk.old.fault ≡ None }
     ensures reads { Making M.KEEP tree_of (DecodesTree (choice_among (alternatives_by (shape_of_type types.now.list.now types.now.levels) alternatives.now))) decoder.old (outcome result out.new walk.new.error) decoder.new }
-    ensures fits { M.KEEP ≡ true → IfOk (outcome result out.new walk.new.error) (λ v. IsChosen (AlternativeFits (Fits types.now.list.now types.now.levels) alternatives.now) v) }
+    ensures fits { M.KEEP ≡ true → (s : State) → Covers s decoder.old → IfOk (outcome result out.new walk.new.error) (λ v. IsChosen (AlternativeFits (FitsFrom s types.now.list.now types.now.levels) alternatives.now) v) }
     ensures unknown { IfErr (outcome result out.new walk.new.error) (λ e. IsNoAlternative (alternatives_by (shape_of_type types.now.list.now types.now.levels) alternatives.now) name.now decoder.old e decoder.new) }
     ensures rules { IfErr (outcome result out.new walk.new.error) (λ e. e.codec ≡ decoder.old.rule) }
     ensures told { Told (IsFaultIn types.now.list.now types.now.levels (IsAlternativeAt (shape_of_type types.now.list.now types.now.levels) alternatives.now decoder.old) decoder.old decoder.old) (outcome result out.new walk.new.error) walk.new.fault }
@@ -725,7 +727,7 @@ fn decode_elements<'input, M: Made>(
     requires short { length decoder.old.rest < 2 ^ 64 }
     requires clear { walk.old.fault ≡ None }
     ensures reads { Counting M.KEEP trees_of IsLength (DecodesElements (DecodesTree (shape_of_type types.now.list.now types.now.levels element.0)) these) decoder.old (outcome result values.new walk.new.error) decoder.new (count_of result) }
-    ensures fits { M.KEEP ≡ true → IfOk (outcome result values.new walk.new.error) (λ v. EachFits (Fits types.now.list.now types.now.levels element.0) v.items) }
+    ensures fits { M.KEEP ≡ true → (s : State) → Covers s decoder.old → IfOk (outcome result values.new walk.new.error) (λ v. EachFits (FitsFrom s types.now.list.now types.now.levels element.0) v.items) }
     ensures rules { IfErr (outcome result values.new walk.new.error) (λ e. e.codec ≡ decoder.old.rule) }
     ensures told { Told (IsFaultIn types.now.list.now types.now.levels (IsElementAt (shape_of_type types.now.list.now types.now.levels) element.0 decoder.old) decoder.old decoder.old) (outcome result values.new walk.new.error) walk.new.fault }
     ensures itself { IfErr (outcome result values.new walk.new.error) (λ e. walk.new.fault ≡ None → StopsInElements (shape_of_type types.now.list.now types.now.levels) element.0 decoder.old e) }
@@ -758,7 +760,7 @@ fn decode_elements_in_order<'input, M: Made>(
     requires short { length decoder.old.rest < 2 ^ 64 }
     requires clear { walk.old.fault ≡ None }
     ensures reads { Counting M.KEEP trees_of IsLength (DecodesElementsInOrder (DecodesTree (shape_of_type types.now.list.now types.now.levels element.0)) these) decoder.old (outcome result values.new walk.new.error) decoder.new (count_of result) }
-    ensures fits { M.KEEP ≡ true → IfOk (outcome result values.new walk.new.error) (λ v. EachFits (Fits types.now.list.now types.now.levels element.0) v.items) }
+    ensures fits { M.KEEP ≡ true → (s : State) → Covers s decoder.old → IfOk (outcome result values.new walk.new.error) (λ v. EachFits (FitsFrom s types.now.list.now types.now.levels element.0) v.items) }
     ensures rules { IfErr (outcome result values.new walk.new.error) (λ e. e.codec ≡ decoder.old.rule) }
     ensures told { Told (IsFaultIn types.now.list.now types.now.levels (IsElementAt (shape_of_type types.now.list.now types.now.levels) element.0 decoder.old) decoder.old decoder.old) (outcome result values.new walk.new.error) walk.new.fault }
     ensures itself { IfErr (outcome result values.new walk.new.error) (λ e. walk.new.fault ≡ None → StopsInOrder (shape_of_type types.now.list.now types.now.levels) element.0 decoder.old e) }
@@ -797,7 +799,7 @@ fn decode_components<'input, M: Made>(
     requires clear { walk.old.fault ≡ None }
     ensures reads { Making M.KEEP trees_of (DecodesBy (ReadsSequence (components_by (shape_of_type types.now.list.now types.now.levels) components.now)) items) decoder.old (outcome result values.new walk.new.error) decoder.new }
     ensures fails { IfErr (outcome result values.new walk.new.error) (λ e. FailsAtPart (components_by (shape_of_type types.now.list.now types.now.levels) components.now) decoder.old e decoder.new ⊎ IsOutOfMemory e.kind) }
-    ensures fits { M.KEEP ≡ true → IfOk (outcome result values.new walk.new.error) (λ v. ComponentsFit (Fits types.now.list.now types.now.levels) components.now v.items) }
+    ensures fits { M.KEEP ≡ true → (s : State) → Covers s decoder.old → IfOk (outcome result values.new walk.new.error) (λ v. ComponentsFit (FitsFrom s types.now.list.now types.now.levels) components.now v.items) }
     ensures rules { IfErr (outcome result values.new walk.new.error) (λ e. e.codec ≡ decoder.old.rule) }
     ensures told { Told (IsFaultIn types.now.list.now types.now.levels (IsComponentAt (shape_of_type types.now.list.now types.now.levels) components.now decoder.old) decoder.old decoder.old) (outcome result values.new walk.new.error) walk.new.fault }
     ensures itself { IfErr (outcome result values.new walk.new.error) (λ e. walk.new.fault ≡ None → StopsInSequence (shape_of_type types.now.list.now types.now.levels) components.now decoder.old e) }
@@ -872,7 +874,7 @@ pub fn decode_component<'input, M: Made>(
     requires clear { walk.old.fault ≡ None }
     ensures reads { Making M.KEEP tree_of (DecodesComponent (presence_in (shape_of_type types.now.list.now types.now.levels) component.now) (shape_of_type types.now.list.now types.now.levels component.now.type_id.0)) decoder.old (outcome result out.new walk.new.error) decoder.new }
     ensures fails { IfErr (outcome result out.new walk.new.error) (λ e. FailsAtOnePart (presence_in (shape_of_type types.now.list.now types.now.levels) component.now) (shape_of_type types.now.list.now types.now.levels component.now.type_id.0) decoder.old e decoder.new) }
-    ensures fits { M.KEEP ≡ true → IfOk (outcome result out.new walk.new.error) (λ v. ComponentFits (Fits types.now.list.now types.now.levels) component.now v) }
+    ensures fits { M.KEEP ≡ true → (s : State) → Covers s decoder.old → IfOk (outcome result out.new walk.new.error) (λ v. ComponentFits (FitsFrom s types.now.list.now types.now.levels) component.now v) }
     ensures rules { IfErr (outcome result out.new walk.new.error) (λ e. e.codec ≡ decoder.old.rule) }
     ensures told { Told (IsFaultIn types.now.list.now types.now.levels (IsOnly index component.now.type_id.0 decoder.old) decoder.old decoder.old) (outcome result out.new walk.new.error) walk.new.fault }
     ensures itself { IfErr (outcome result out.new walk.new.error) (λ e. walk.new.fault ≡ None → StopsAtComponent (shape_of_type types.now.list.now types.now.levels) component.now decoder.old e) }
@@ -902,7 +904,7 @@ pub fn decode_present<'input, M: Made>(
     requires lawful { IsReadable (shape_of_type types.now.list.now types.now.levels component.now.type_id.0) }
     requires clear { walk.old.fault ≡ None }
     ensures reads { Making M.KEEP tree_of (DecodesPresent (presence_in (shape_of_type types.now.list.now types.now.levels) component.now) (shape_of_type types.now.list.now types.now.levels component.now.type_id.0)) decoder.old (outcome result out.new walk.new.error) decoder.new }
-    ensures fits { M.KEEP ≡ true → IfOk (outcome result out.new walk.new.error) (λ v. Fits types.now.list.now types.now.levels component.now.type_id.0 v) }
+    ensures fits { M.KEEP ≡ true → (s : State) → Covers s decoder.old → IfOk (outcome result out.new walk.new.error) (λ v. FitsFrom s types.now.list.now types.now.levels component.now.type_id.0 v) }
     ensures rules { IfErr (outcome result out.new walk.new.error) (λ e. e.codec ≡ decoder.old.rule) }
     ensures told { Told (IsFaultIn types.now.list.now types.now.levels (IsOnly index component.now.type_id.0 decoder.old) decoder.old decoder.old) (outcome result out.new walk.new.error) walk.new.fault }
     ensures itself { IfErr (outcome result out.new walk.new.error) (λ e. walk.new.fault ≡ None → IsDefaultWritten (shape_of_type types.now.list.now types.now.levels) component.now decoder.old e) }
@@ -944,7 +946,7 @@ fn decode_set_components<'input, M: Made>(
     requires clear { walk.old.fault ≡ None }
     requires other { members.now.extensible ≡ true → shape_of_type types.now.list.now types.now.levels members.now.other_id.0 ≡ unknown_values }
     ensures exact { Making M.KEEP trees_of (MayRunOut (DecodesSetPartContents members.now.extensible (components_by (shape_of_type types.now.list.now types.now.levels) members.now.components.now) items (names_of members.now.components.now))) decoder.old (reported result walk.new.error) decoder.new }
-    ensures fits { M.KEEP ≡ true → IfOk (reported result walk.new.error) (λ v. MembersFit (Fits types.now.list.now types.now.levels) members.now.extensible members.now.components.now v.items) }
+    ensures fits { M.KEEP ≡ true → (s : State) → Covers s decoder.old → IfOk (reported result walk.new.error) (λ v. MembersFit (FitsFrom s types.now.list.now types.now.levels) members.now.extensible members.now.components.now v.items) }
     ensures rules { IfErr (reported result walk.new.error) (λ e. e.codec ≡ decoder.old.rule) }
     ensures told { Told (IsFaultIn types.now.list.now types.now.levels (IsMemberAfter (shape_of_type types.now.list.now types.now.levels) members.now.extensible members.now.components.now members.now.other_id.0 decoder.old) decoder.old decoder.old) (reported result walk.new.error) walk.new.fault }
     ensures itself { IfErr (reported result walk.new.error) (λ e. walk.new.fault ≡ None → StopsInSet (shape_of_type types.now.list.now types.now.levels) members.now.name.now members.now.extensible members.now.components.now decoder.old e) }
@@ -999,11 +1001,11 @@ fn decode_set_component<'input, 'names, M: Made>(
     unknown: &mut Vec<Value<'input>>,
 ) -> Result<Option<&'names str>, Refused>
     requires lawful { AreLawfulMembers (components_by (shape_of_type types.now.list.now types.now.levels) members.now.components.now) }
-    requires found { FoundFit (λ k v. M.KEEP ≡ true → Fits types.now.list.now types.now.levels k v) members.now.components.now found.old.items }
+    requires room { length found.old.items ≡ length members.now.components.now }
     requires clear { walk.old.fault ≡ None }
     requires other { members.now.extensible ≡ true → shape_of_type types.now.list.now types.now.levels members.now.other_id.0 ≡ unknown_values }
     ensures next { DecodesMember M.KEEP members.now.extensible (components_by (shape_of_type types.now.list.now types.now.levels) members.now.components.now) (names_of members.now.components.now) found.old.items unknown.old.items decoder.old (reported result walk.new.error) decoder.new found.new.items unknown.new.items }
-    ensures found { FoundFit (λ k v. M.KEEP ≡ true → Fits types.now.list.now types.now.levels k v) members.now.components.now found.new.items }
+    ensures found { (s : State) → Covers s decoder.old → FoundFit (λ k v. M.KEEP ≡ true → FitsFrom s types.now.list.now types.now.levels k v) members.now.components.now found.old.items → FoundFit (λ k v. M.KEEP ≡ true → FitsFrom s types.now.list.now types.now.levels k v) members.now.components.now found.new.items }
     ensures octets { M.KEEP ≡ true → IfOk (reported result walk.new.error) (λ v. EachFits AreOctetsValue unknown.old.items → EachFits AreOctetsValue unknown.new.items) }
     ensures unknown { IfErr (reported result walk.new.error) (λ e. IsNoMember members.now.extensible (components_by (shape_of_type types.now.list.now types.now.levels) members.now.components.now) members.now.name.now decoder.old e decoder.new) }
     ensures rules { IfErr (reported result walk.new.error) (λ e. e.codec ≡ decoder.old.rule) }

@@ -1,11 +1,12 @@
 //! Writes values that hold no other values.
-ghost use Rattle.std.specs.Prelude.{◌≡◌, true, OnOk, OnErr, IfOk, IfErr, MatchOption, map};
-ghost use Rattle.rasn_types.specs.Shapes.{bits, numbers, joined, tagged_as, done, leaf, any, unknown, looked_for, enumerated};
+ghost use Rattle.std.specs.Prelude.{◌≡◌, ◌⊎◌, true, chars, OnOk, OnErr, IfOk, IfErr, MatchOption, map};
+ghost use Rattle.rasn_types.specs.Shapes.{bits, numbers, joined, tagged_as, done, leaf, any, unknown, looked_for, enumerated, universal};
 ghost use Rattle.rasn_types.specs.Shapes.Parts.{none};
 ghost use Rattle.rasn_types.specs.Trees.{unconstrained};
 ghost use Rattle.rasn_schema.specs.Trees.{tree_of};
 ghost use Rattle.rasn_schema.specs.Shapes.{kind_of, numbers_of};
-ghost use Rattle.rasn_schema.specs.Fitting.{BitsFit, FitsLeaf, IsNumber, AreOctets, AreItems, EachFits};
+ghost use Rattle.rasn_schema.specs.declared.types.LeafKind.TheVariants.{Utf8, Universal};
+ghost use Rattle.rasn_schema.specs.Fitting.{BitsFit, OctetsFit, FitsLeaf, IsNumber, AreOctets, AreItems, EachFits};
 ghost use Rattle.rasn_enc.specs.Encoding.{AppendsEncoding, EncodeFails};
 ghost use Rattle.rasn_enc.specs.Primitive.{IsAllocError};
 ghost use Rattle.rasn_enc.specs.SortedSet.{HoldsParts, FailsAtComponents};
@@ -17,7 +18,7 @@ use crate::walk::Refused;
 use rasn_enc::ber::enc::Encoder;
 use rasn_enc::ber::enc::set_parts::{SetComponent, unknown_components};
 use rasn_enc::enc::Encode;
-use rasn_schema::{LeafKind, NamedNumber, Value, is_listed, items_of, leaf_fits};
+use rasn_schema::{LeafKind, NamedNumber, Value, is_listed, items_of, leaf_fits, universal_octets};
 use rasn_types::error::{EncodeError, EncodeErrorKind};
 use rasn_types::types::{Any, BitStr, Constraints, Identifier, Integer, Tag, Unknown};
 use std::alloc::{AllocError, Global};
@@ -68,6 +69,69 @@ fn encode_bits(
     }
 }
 
+/// Writes octets: contents, or a string.
+#[inline(always)]
+fn encode_octets(
+    encoder: &mut Encoder,
+    kind: LeafKind,
+    tag: Tag,
+    constraints: &Constraints,
+    octets: &[u8],
+) -> Result<(), EncodeError>
+    requires { OctetsFit kind octets.now }
+    ensures does { Encodes (leaf (kind_of kind) tag constraints.now) (numbers octets.now) encoder.old result encoder.new }
+    ensures err { OnErr result (encoder.new ≡ encoder.old) }
+    ensures rules { IfErr result (λ e. e.codec ≡ encoder.old.rule) }
+{
+    match kind {
+        LeafKind::Real
+        | LeafKind::Time
+        | LeafKind::Duration
+        | LeafKind::TimeOfDay
+        | LeafKind::DateTime => encoder.encode_contents(tag, octets),
+        _ => encoder.encode_octet_string(tag, constraints, octets, Identifier::EMPTY),
+    }
+}
+
+/// Writes the characters of a UTF8String or a UniversalString.
+#[inline(always)]
+fn encode_text(
+    encoder: &mut Encoder,
+    kind: LeafKind,
+    tag: Tag,
+    constraints: &Constraints,
+    text: &str,
+) -> Result<(), EncodeError>
+    requires { (kind ≡ Utf8) ⊎ (kind ≡ Universal) }
+    ensures does { Encodes (leaf (kind_of kind) tag constraints.now) (numbers (chars text.now)) encoder.old result encoder.new }
+    ensures err { OnErr result (encoder.new ≡ encoder.old) }
+    ensures rules { IfErr result (λ e. e.codec ≡ encoder.old.rule) }
+{
+    match kind {
+        LeafKind::Universal => encode_universal(encoder, tag, constraints, text),
+        _ => encoder.encode_utf8_string(tag, constraints, text, Identifier::EMPTY),
+    }
+}
+
+/// Writes a UniversalString, four octets a character (X.690 8.23.7). Its size is in characters.
+#[inline(never)]
+fn encode_universal(
+    encoder: &mut Encoder,
+    tag: Tag,
+    constraints: &Constraints,
+    text: &str,
+) -> Result<(), EncodeError>
+    ensures does { Encodes (leaf universal tag constraints.now) (numbers (chars text.now)) encoder.old result encoder.new }
+    ensures err { OnErr result (encoder.new ≡ encoder.old) }
+    ensures rules { IfErr result (λ e. e.codec ≡ encoder.old.rule) }
+{
+    let Ok(octets) = universal_octets(encoder.alloc(), text) else {
+        return Err(out_of_room(encoder));
+    };
+    encoder.check_size(constraints, octets.len() / 4)?;
+    encoder.encode_octet_string(tag, &Constraints::NONE, &octets, Identifier::EMPTY)
+}
+
 /// Writes a value as one of a type written in Rattle, and keeps the error.
 #[inline(always)]
 fn encode_held<T: Encode>(
@@ -103,12 +167,11 @@ pub fn encode_leaf(
     if !leaf_fits(kind, value) {
         return refuse_form(encoder, error);
     }
-    let name = Identifier::EMPTY;
     match value {
         Value::Boolean(held) => encode_held(held, encoder, tag, constraints, error),
         Value::Null => encode_held(&(), encoder, tag, constraints, error),
         Value::Integer(held) => kept(
-            encoder.encode_integer::<Integer>(tag, constraints, held, name),
+            encoder.encode_integer::<Integer>(tag, constraints, held, Identifier::EMPTY),
             error,
         ),
         Value::Bits(held) => kept(
@@ -116,11 +179,11 @@ pub fn encode_leaf(
             error,
         ),
         Value::Octets(held) => kept(
-            encoder.encode_octet_string(tag, constraints, held.as_slice(), name),
+            encode_octets(encoder, kind, tag, constraints, held.as_slice()),
             error,
         ),
         Value::Text(held) => kept(
-            encoder.encode_utf8_string(tag, constraints, held.as_str(), name),
+            encode_text(encoder, kind, tag, constraints, held.as_str()),
             error,
         ),
         Value::Units(held) => encode_held(held, encoder, tag, constraints, error),

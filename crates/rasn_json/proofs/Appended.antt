@@ -1,6 +1,6 @@
 -- Tokens that are appended, one after the other.
 use Rattle.std.proofs.Common.{◌≡◌, ◌<◌, ◌^◌, ℕ, List, [], ◌∷◌, ◌++◌, Some, Result, Ok, Err, inl, inr, refl, sym, ap, ◌∙◌, subst, append_assoc}
-use Rattle.std.specs.Prelude.{◌⊎◌, ◌≢◌, Bool, length, codes, decimal, encode_utf8_all, slice_get, OnOk}
+use Rattle.std.specs.Prelude.{◌≢◌, Bool, length, codes, decimal, encode_utf8_all, slice_get, OnOk}
 use Rattle.std.specs.String.{string_bytes}
 use Rattle.json.specs.Token.{Token, begin_object, end_object, begin_array, end_array, key, string, number}
 use Rattle.json.specs.Json as json
@@ -12,8 +12,8 @@ use Rattle.rasn_schema.specs.declared.value.Value.{Value}
 use Rattle.rasn_types.specs.BitString.{Packs}
 use Rattle.rasn_types.specs.Text.{hexadecimal}
 use Rattle.rasn_schema.specs.declared.types.LeafKind.{LeafKind}
-use Rattle.rasn_schema.specs.declared.types.LeafKind.TheVariants.{OctetString, FixedOctetString}
-use Rattle.rasn_json.specs.Json.{HexadecimalJson, CountedJson, OctetsJson, counted, MembersJson, ItemsJson, ObjectJson, ArrayJson, ChosenJson, IsLeftOut, Appends, AppendsMember, AppendsComponent}
+use Rattle.rasn_schema.specs.declared.types.LeafKind.TheVariants.{OctetString, FixedOctetString, Real, TimeOfDay, DateTime}
+use Rattle.rasn_json.specs.Json.{HexadecimalJson, CountedJson, OctetsJson, counted, MembersJson, ItemsJson, ObjectJson, ArrayJson, ChosenJson, Appends, AppendsMember, AppendsComponent}
 
 -- What holds of the JSON holds of one of which less is said.
 pub appends_as : (P Q : Json → Type 0) (old new : List Token) → ((j : Json) → P j → Q j) → Appends P old new → Appends Q old new
@@ -51,10 +51,14 @@ counted_appended bs o n old one two three four five new p m w a b (j, s, h) d e 
       (subst (λ k. k < 2 ^ 64) m w, (json.string (hexadecimal o), (o, p, (h.0, refl)), refl)),
     )
 
-pub other_octets : (kind : LeafKind) (o : List ℕ) (j : Json) → (kind ≢ OctetString) → ((n : ℕ) → kind ≢ FixedOctetString n) → j ≡ json.string (encode_utf8_all o) → OctetsJson kind o j
-other_octets OctetString o j n m h = absurd (n refl)
-other_octets (FixedOctetString k) o j n m h = absurd (m k refl)
-other_octets _ o j n m h = h
+pub other_octets : (kind : LeafKind) (o : List ℕ) (j : Json) → (kind ≢ OctetString) → ((n : ℕ) → kind ≢ FixedOctetString n) → (kind ≢ Real) → (kind ≢ TimeOfDay) → (kind ≢ DateTime) → j ≡ json.string (encode_utf8_all o)
+    → OctetsJson kind o j
+other_octets OctetString o j n m r t d h = absurd (n refl)
+other_octets (FixedOctetString k) o j n m r t d h = absurd (m k refl)
+other_octets Real o j n m r t d h = absurd (r refl)
+other_octets TimeOfDay o j n m r t d h = absurd (t refl)
+other_octets DateTime o j n m r t d h = absurd (d refl)
+other_octets _ o j n m r t d h = h
 
 -- ---- the members of an object
 

@@ -1,10 +1,10 @@
 -- JSON of a value that holds no others is read as this value.
-use Rattle.std.proofs.Common.{◌≡◌, ℕ, ◌+◌, ℤ, pos, List, [], ◌++◌, Bool, length, take, Option, Some, None, inl, inr, refl, sym, ap, ◌∙◌, subst, arith, decimal}
+use Rattle.std.proofs.Common.{◌≡◌, ℕ, ℤ, pos, List, ◌++◌, Bool, length, take, Option, Some, None, inl, inr, refl, sym, ap, ◌∙◌, subst, decimal}
 use Rattle.std.specs.Prelude.{slice_get, chars, codes}
 use Rattle.std.specs.Cow.{cow_slice_items, cow_str_bytes}
 use Rattle.std.specs.String.{string_bytes}
 use Rattle.std.proofs.Math.Seq.{take-append_seam}
-use Rattle.json.specs.Json.{Json, number}
+use Rattle.json.specs.Json.{Json, number, string}
 use Rattle.json.specs.Find.{as_str, as_number, get}
 use Rattle.rasn_types.specs.Shapes.{numbers, bits, instant, on_day}
 use Rattle.rasn_types.specs.Shapes as shapes
@@ -14,19 +14,26 @@ use Rattle.rasn_types.specs.CowBits.{cow_bits}
 use Rattle.rasn_types.specs.declared.types.constraints.Constraints.{Constraints}
 use Rattle.rasn_types.proofs.BitString.Significant.{significant_zeros}
 use Rattle.rasn_schema.specs.declared.types.LeafKind.{LeafKind}
-use Rattle.rasn_schema.specs.declared.types.LeafKind.TheVariants.{Boolean as BooleanKind, Null as NullKind, ObjectIdentifier, BitString, NamedBits, OctetString, FixedOctetString, Integer as IntegerKind, Signed32, Signed64, Unsigned32, Unsigned64, Numeric, Printable, Visible, Ia5, AnyOctets, Bmp, Utf8, UtcTime, GeneralizedTime, Date}
+use Rattle.rasn_schema.specs.declared.types.LeafKind.TheVariants.{Boolean as BooleanKind, Null as NullKind, ObjectIdentifier, BitString, NamedBits, OctetString, FixedOctetString, Integer as IntegerKind, Signed32, Signed64, Unsigned32, Unsigned64, Numeric, Printable, Visible, Ia5, AnyOctets, Bmp, Utf8, UtcTime, GeneralizedTime, Date, RelativeOid, Universal, Time, Duration, TimeOfDay, DateTime, Real as RealKind}
 use Rattle.rasn_schema.specs.declared.types.NamedNumber.{NamedNumber}
 use Rattle.rasn_schema.specs.declared.value.Value.{Value, Boolean, Null, Integer, Bits, Octets, Text, Units, Arcs, Instant, Day, Absent, Items', Elements', Chosen'}
 use Rattle.rasn_schema.specs.Trees.{tree_of}
 use Rattle.rasn_schema.specs.Fitting.{FitsLeaf, NumberFits, OctetsFit, BitsFit}
 use Rattle.rasn_schema.proofs.Lists.{some_is}
 use Rattle.rasn_json.specs.Decimal.{IsWhole}
-use Rattle.rasn_json.specs.Json.{NameJson, NumberJson, IntegerJson, OctetsJson, DigitsJson, BitsJson, LeafJson, one_size, counted}
+use Rattle.std.specs.Prelude.{All}
+use Rattle.std.specs.List.{filter}
+use Rattle.std.specs.Char.{is_ascii_digit}
+use Rattle.rasn_types.specs.Contents.{IsDigit}
+use Rattle.rasn_schema.specs.TimeTexts.{shown_digits}
+use Rattle.rasn_schema.proofs.LeafTexts.{shown_kept}
+use Rattle.rasn_json.specs.Json.{ArcsJson, NameJson, NumberJson, IntegerJson, OctetsJson, DigitsJson, BitsJson, LeafJson, one_size, counted}
 use Rattle.rasn_json.specs.Names.{HaveOwnNames, name_of_number}
-use Rattle.rasn_json.specs.Reading.{NameRead, WholeRead, IntegerRead, OctetsRead, DigitsRead, AllBitsRead, BitsRead, LeafRead}
-use Rattle.rasn_json.specs.Texts.{InstantText, UnitsText, ArcsText, DayText}
+use Rattle.rasn_json.specs.Reading.{ArcsReadBy, NameRead, WholeRead, IntegerRead, OctetsRead, DigitsRead, AllBitsRead, BitsRead, LeafRead}
+use Rattle.rasn_json.specs.Texts.{InstantText, UnitsText, ArcsText, RelativeText, DayText}
 use Rattle.rasn_json.proofs.DayTexts.{one_day_text}
-use Rattle.rasn_json.proofs.Strings.{one_string, octets_once, characters_once, units_once, whole_once, count_once, arcs_once, instant_once, written_told}
+use Rattle.rasn_json.proofs.RealsOnce.{real_once}
+use Rattle.rasn_json.proofs.Strings.{one_string, octets_once, characters_once, units_once, whole_once, count_once, arcs_once, relative_once, instant_once, written_told}
 
 -- ---- names and numbers
 
@@ -55,10 +62,20 @@ integer_once kind names n m j own (inr (x, (few, (s, e, d, a)))) (inr (inr (clos
 
 -- ---- strings
 
-octets_kinds : (kind : LeafKind) (o p : List ℕ) (j : Json) → OctetsJson kind o j → OctetsRead kind j p → o ≡ p
-octets_kinds OctetString o p j a b = octets_once o p j a b
-octets_kinds (FixedOctetString n) o p j a b = octets_once o p j a b
-octets_kinds kind o p j a b = characters_once o p j a b
+shown_once : (o p : List ℕ) (j : Json) → All IsDigit o → All IsDigit p → j ≡ string (shown_digits o) → as_str j ≡ Some (shown_digits p) → o ≡ p
+shown_once o p j f g a b = sym (shown_kept o f) ∙ (ap (filter is_ascii_digit) (one_string (shown_digits o) (shown_digits p) j a b) ∙ shown_kept p g)
+
+octets_kinds : (kind : LeafKind) (o p : List ℕ) (j : Json) → OctetsFit kind o → OctetsFit kind p → OctetsJson kind o j → OctetsRead kind j p → o ≡ p
+octets_kinds OctetString o p j f g a b = octets_once o p j a b
+octets_kinds (FixedOctetString n) o p j f g a b = octets_once o p j a b
+octets_kinds RealKind o p j f g a b = real_once o p j a b
+octets_kinds TimeOfDay o p j f g a b = shown_once o p j f.1 g.1 a b
+octets_kinds DateTime o p j f g a b = shown_once o p j f.1 g.1 a b
+octets_kinds kind o p j f g a b = characters_once o p j a b
+
+arcs_kinds : (kind : LeafKind) (l m : List ℕ) (j : Json) → ArcsJson kind l j → ArcsReadBy kind j m → l ≡ m
+arcs_kinds RelativeOid l m j (s, a, h) (t, b, k) = relative_once t l m (subst (λ x. RelativeText x l) (one_string s t j a b) h) k
+arcs_kinds kind l m j (s, a, h) (t, b, k) = arcs_once t l m (subst (λ x. ArcsText x l) (one_string s t j a b) h) k
 
 digits_once : (n : ℕ) (all bs : List Bool) (j : Json) → length all ≡ n → DigitsJson all j → DigitsRead j n bs → bs ≡ all
 digits_once n all bs j e (o, packs, a) (p, b, (size, is)) =
@@ -116,8 +133,10 @@ form_of Unsigned64 = 2
 form_of BitString = 3
 form_of NamedBits = 3
 form_of Utf8 = 5
+form_of Universal = 5
 form_of Bmp = 6
 form_of ObjectIdentifier = 7
+form_of RelativeOid = 7
 form_of UtcTime = 8
 form_of GeneralizedTime = 8
 form_of Date = 9
@@ -139,6 +158,11 @@ bits_form kind bs f = absurd f
 octets_form : (kind : LeafKind) (o : List ℕ) → OctetsFit kind o → form_of kind ≡ 4
 octets_form OctetString o f = refl
 octets_form (FixedOctetString n) o f = refl
+octets_form RealKind o f = refl
+octets_form Time o f = refl
+octets_form Duration o f = refl
+octets_form TimeOfDay o f = refl
+octets_form DateTime o f = refl
 octets_form Numeric o f = refl
 octets_form Printable o f = refl
 octets_form Visible o f = refl
@@ -152,31 +176,33 @@ fits_form kind Null f = ap form_of f
 fits_form kind (Integer n) f = number_form kind n f
 fits_form kind (Bits b) f = bits_form kind (cow_bits b) f
 fits_form kind (Octets o) f = octets_form kind (cow_slice_items o) f
-fits_form kind (Text s) f = ap form_of f
+fits_form kind (Text s) (inl f) = ap form_of f
+fits_form kind (Text s) (inr f) = ap form_of f
 fits_form kind (Units u) f = ap form_of f
-fits_form kind (Arcs a) f = ap form_of f
+fits_form kind (Arcs a) (inl f) = ap form_of f
+fits_form kind (Arcs a) (inr f) = ap form_of f
 fits_form kind (Instant t) (inl f) = ap form_of f
 fits_form kind (Instant t) (inr f) = ap form_of f
 fits_form kind (Day d) f = ap form_of f
 fits_form kind v f = absurd f
 
 module _ (kind : LeafKind) (c : Constraints) (names : List NamedNumber) (j : Json) (own : HaveOwnNames name_of_number names) where
-  formed_once : (v w : Value) → form v ≡ form w → FitsLeaf kind v → LeafJson kind c names v j → LeafRead kind c names j w → tree_of v ≡ tree_of w
-  formed_once (Boolean b) (Boolean d) e f a r = let g : b ≡ d = cc in ap bool_tree g
-  formed_once Null Null e f a r = refl
-  formed_once (Integer n) (Integer m) e f a r = ap shapes.number (integer_once kind names n m j own a r)
-  formed_once (Bits b) (Bits d) e f a r = ap bits (bits_once kind (one_size c) (cow_bits b) (cow_bits d) j f a r)
-  formed_once (Octets o) (Octets p) e f a r = ap numbers (octets_kinds kind (cow_slice_items o) (cow_slice_items p) j a r)
-  formed_once (Text s) (Text t) e f a r = ap (λ l. numbers (chars l)) (one_string (cow_str_bytes s) (cow_str_bytes t) j a r)
-  formed_once (Units u) (Units x) e f (s, a, h) (t, b, k) = ap numbers (units_once t u x (subst (λ l. UnitsText l u) (one_string s t j a b) h) k)
-  formed_once (Arcs l) (Arcs m) e f (s, a, h) (t, b, k) = ap numbers (arcs_once t l m (subst (λ x. ArcsText x l) (one_string s t j a b) h) k)
-  formed_once (Instant x) (Instant y) e f (s, a, h) (t, b, k) = ap instant (instant_once kind t x.moment y.moment (subst (λ l. InstantText kind l x.moment) (one_string s t j a b) (written_told kind s x.moment h)) k)
-  formed_once (Day x) (Day y) e f (s, a, h) (t, b, k) = ap on_day (one_day_text t x y (subst (λ l. DayText l x) (one_string s t j a b) h) k)
-  formed_once (Items' _ row) w e f a r = absurd f
-  formed_once (Elements' _ row) w e f a r = absurd f
-  formed_once (Chosen' i _ x) w e f a r = absurd f
-  formed_once Absent w e f a r = absurd f
-  formed_once v w e f a r = absurd cc
+  formed_once : (v w : Value) → form v ≡ form w → FitsLeaf kind v → FitsLeaf kind w → LeafJson kind c names v j → LeafRead kind c names j w → tree_of v ≡ tree_of w
+  formed_once (Boolean b) (Boolean d) e f o a r = let g : b ≡ d = cc in ap bool_tree g
+  formed_once Null Null e f o a r = refl
+  formed_once (Integer n) (Integer m) e f o a r = ap shapes.number (integer_once kind names n m j own a r)
+  formed_once (Bits b) (Bits d) e f o a r = ap bits (bits_once kind (one_size c) (cow_bits b) (cow_bits d) j f a r)
+  formed_once (Octets x) (Octets y) e f o a r = ap numbers (octets_kinds kind (cow_slice_items x) (cow_slice_items y) j f o a r)
+  formed_once (Text s) (Text t) e f o a r = ap (λ l. numbers (chars l)) (one_string (cow_str_bytes s) (cow_str_bytes t) j a r)
+  formed_once (Units u) (Units x) e f o (s, a, h) (t, b, k) = ap numbers (units_once t u x (subst (λ l. UnitsText l u) (one_string s t j a b) h) k)
+  formed_once (Arcs l) (Arcs m) e f o a r = ap numbers (arcs_kinds kind l m j a r)
+  formed_once (Instant x) (Instant y) e f o (s, a, h) (t, b, k) = ap instant (instant_once kind t x.moment y.moment (subst (λ l. InstantText kind l x.moment) (one_string s t j a b) (written_told kind s x.moment h)) k)
+  formed_once (Day x) (Day y) e f o (s, a, h) (t, b, k) = ap on_day (one_day_text t x y (subst (λ l. DayText l x) (one_string s t j a b) h) k)
+  formed_once (Items' _ row) w e f o a r = absurd f
+  formed_once (Elements' _ row) w e f o a r = absurd f
+  formed_once (Chosen' i _ x) w e f o a r = absurd f
+  formed_once Absent w e f o a r = absurd f
+  formed_once v w e f o a r = absurd cc
 
   pub leaf_once : (v w : Value) → FitsLeaf kind v → FitsLeaf kind w → LeafJson kind c names v j → LeafRead kind c names j w → tree_of v ≡ tree_of w
-  leaf_once v w f g a r = formed_once v w (sym (fits_form kind v f) ∙ fits_form kind w g) f a r
+  leaf_once v w f g a r = formed_once v w (sym (fits_form kind v f) ∙ fits_form kind w g) f g a r

@@ -11,7 +11,11 @@ pub mod Spelled
 pub mod Utf16
 pub mod Filled
 pub mod Strings
+pub mod RealTexts
+pub mod NewLeaves
+pub mod RealsOnce
 pub mod Leaves
 pub mod ReadBack
 pub mod Worked
+pub mod WorkedReals
 pub mod WorkedParts

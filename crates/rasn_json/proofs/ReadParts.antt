@@ -13,11 +13,18 @@ use Rattle.rasn_schema.specs.declared.types.Alternative.{Alternative}
 use Rattle.rasn_schema.specs.declared.types.Component.{Component}
 use Rattle.rasn_schema.specs.declared.types.«Type».{«Type»}
 use Rattle.rasn_schema.specs.declared.types.«Type».TheVariants.{Leaf, Enumerated, Any, Tagged, Choice, Sequence, Set, SequenceOf, SetOf, Unknown}
+use Rattle.rasn_schema.specs.Fitting.{Fits, FitsBy, FitsFound}
 use Rattle.rasn_schema.specs.Held.{is_unknown_found}
 use Rattle.rasn_schema.specs.declared.value.Value.{Value}
 use Rattle.rasn_schema.proofs.Lists.{read_at, some_is}
 use Rattle.rasn_json.specs.Json.{unknown_in}
 use Rattle.rasn_json.specs.Reading.{ChosenRead, ReadAt, ReadBy, ReadFound, ComponentRead, ComponentsRead, ItemsRead}
+
+pub fits_below : (types : List «Type») (levels below k : ℕ) (ty : «Type») (v : Value) → levels ≡ suc below → Some ty ≡ slice_get types k → FitsBy (λ j w. Fits types below j w) ty v → Fits types levels k v
+unfolding Fits
+fits_below types zero below k ty v n e h = absurd (omega (arith, n))
+fits_below types (suc m) below k ty v n e h =
+    let s : m ≡ below = omega (arith, n) in subst (λ o. FitsFound (λ j w. Fits types m j w) o v) e (subst (λ b. FitsBy (λ j w. Fits types b j w) ty v) (sym s) h)
 
 pub read_below : (types : List «Type») (levels below k : ℕ) (ty : «Type») (j : Json) (v : Value) → levels ≡ suc below → Some ty ≡ slice_get types k → ReadBy (unknown_in types) (ReadAt types below) ty j v → ReadAt types levels k j v
 unfolding ReadAt

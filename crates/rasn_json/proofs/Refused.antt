@@ -12,7 +12,7 @@ use Rattle.rasn_types.specs.CowBits.{cow_bits}
 use Rattle.rasn_types.specs.declared.types.constraints.Constraints.{Constraints}
 use Rattle.rasn_schema.specs.declared.type_id.TypeId.{TypeId}
 use Rattle.rasn_schema.specs.declared.types.LeafKind.{LeafKind}
-use Rattle.rasn_schema.specs.declared.types.LeafKind.TheVariants.{NamedBits, OctetString, FixedOctetString}
+use Rattle.rasn_schema.specs.declared.types.LeafKind.TheVariants.{NamedBits, OctetString, FixedOctetString, Real}
 use Rattle.rasn_schema.specs.declared.types.NamedNumber.{NamedNumber}
 use Rattle.rasn_schema.specs.declared.types.Alternative.{Alternative}
 use Rattle.rasn_schema.specs.declared.types.Component.{Component}
@@ -27,7 +27,8 @@ use Rattle.rasn_json.specs.declared.error.JsonErrorKind.TheVariants.{LongNumber,
 use Rattle.rasn_json.specs.declared.error.JsonStep.{JsonStep}
 use Rattle.rasn_json.specs.declared.error.JsonStep.TheVariants.{Element}
 use Rattle.rasn_json.specs.Json.{BitsJson, IntegerJson, IsExtensible, IsFilled, IsUnnamed, NumberJson, IsSize, LeafJson, OctetsJson, OpenJson, MembersJson, ItemsJson, ObjectJson, ArrayJson, ChosenJson, EnumeratedJson, Appends, IsCounted, JsonBy, JsonFound, JsonAt, JsonWithin, AppendsComponent, one_size, unknown_in}
-use Rattle.rasn_json.specs.Refusals.{IsMemory, OrMemory, HasNone, IsOfItself, IsOfElement, IsOfMember, IsOfPart, IsAlternative, IsRefusedAlternative, AreRefusedBits, IsRefusedForm, IsRefusedLeaf, IsRefusedOpen, HasOpen, IsRefusedChoice, IsRefusedList, IsRefusedSet, IsRefusedComponent, AreRefusedComponents, AreRefusedElements, IsRefusedNested, IsRefusedInside, IsRefusedBy, IsRefusedFound, HasJsonWithin, IsRefusedAt}
+use Rattle.rasn_json.proofs.RealTexts.{real_deep, real_flat}
+use Rattle.rasn_json.specs.Refusals.{IsMemory, OrMemory, HasNone, IsOfItself, IsOfElement, IsOfMember, IsOfPart, IsAlternative, IsRefusedAlternative, AreRefusedBits, IsRefusedForm, IsRefusedLeaf, IsRefusedOpen, IsRefusedReal, HasOpen, IsRefusedChoice, IsRefusedList, IsRefusedSet, IsRefusedComponent, AreRefusedComponents, AreRefusedElements, IsRefusedNested, IsRefusedInside, IsRefusedBy, IsRefusedFound, HasJsonWithin, IsRefusedAt}
 
 -- ---- errors of parts
 
@@ -114,18 +115,19 @@ module _ (d : ℕ) (j : Json) where
   integer_depth kind names n (inl (x, (i, m, at, named, is))) = let k = ap depth is in omega (arith, k)
   integer_depth kind names n (inr (x, (few, (s, is, h, w)))) = let k = ap depth is in omega (arith, k)
 
-  octets_depth : (kind : LeafKind) (o : List ℕ) → OctetsJson kind o j → depth j ≤ d
-  octets_depth OctetString o (a, is) = let k = ap depth is in omega (arith, k)
-  octets_depth (FixedOctetString n) o (a, is) = let k = ap depth is in omega (arith, k)
-  octets_depth kind o is = let k = ap depth is in omega (arith, k)
+  octets_depth : (kind : LeafKind) (c : Constraints) (o : _) → OctetsJson kind (cow_slice_items o) j → (IsCounted kind c (Octets o) → 0 < d) → depth j ≤ d
+  octets_depth OctetString c o (a, is) h = let k = ap depth is in omega (arith, k)
+  octets_depth (FixedOctetString n) c o (a, is) h = let k = ap depth is in omega (arith, k)
+  octets_depth Real c o x h = real_flat (cow_slice_items o) j d x h
+  octets_depth kind c o is h = let k = ap depth is in omega (arith, k)
 
   pub leaf_depth : (kind : LeafKind) (c : Constraints) (names : List NamedNumber) (v : Value)
-      → LeafJson kind c names v j → (IsCounted c v → 0 < d) → depth j ≤ d
+      → LeafJson kind c names v j → (IsCounted kind c v → 0 < d) → depth j ≤ d
   leaf_depth kind c names (Boolean b) is h = let k = ap depth is in omega (arith, k)
   leaf_depth kind c names Null is h = let k = ap depth is in omega (arith, k)
   leaf_depth kind c names (Integer n) x h = integer_depth kind names n x
   leaf_depth kind c names (Bits b) x h = bits_depth kind (one_size c) (cow_bits b) x h
-  leaf_depth kind c names (Octets o) x h = octets_depth kind (cow_slice_items o) x
+  leaf_depth kind c names (Octets o) x h = octets_depth kind c o x h
   leaf_depth kind c names (Text s) is h = let k = ap depth is in omega (arith, k)
   leaf_depth kind c names (Units u) (s, is, x) h = let k = ap depth is in omega (arith, k)
   leaf_depth kind c names (Arcs a) (s, is, x) h = let k = ap depth is in omega (arith, k)
@@ -143,7 +145,7 @@ module _ (d : ℕ) (j : Json) where
 
 -- What is written of a value that holds no others.
 pub leaf_put : {A E : Type 0} (d : ℕ) (kind : LeafKind) (c : Constraints) (names : List NamedNumber) (v : Value) (old new : List Token) (r : Result A E) → OnOk r (FitsLeaf kind v) → OnOk r (Appends (LeafJson kind c names v) old new)
-    → OnOk r (IsCounted c v → 0 < d)
+    → OnOk r (IsCounted kind c v → 0 < d)
     → OnOk r (Appends (λ j. (FitsLeaf kind v × LeafJson kind c names v j) × (depth j ≤ d)) old new)
 leaf_put d kind c names v old new (Ok x) f (j, s, h) n = (j, s, ((f, h), leaf_depth d j kind c names v h n))
 leaf_put d kind c names v old new (Err x) f h n = tt
@@ -244,10 +246,15 @@ module _ (d : ℕ) (kind : LeafKind) (c : Constraints) (names : List NamedNumber
   none_bits (Some n) bs (wrong, i) (all, f, x) le = wrong (size_filled kind n bs all f)
   none_bits None bs (z, i) (w, (x, y, is)) le = let k = ap depth is in omega (arith, k, le, z)
 
+  none_octets : (kind : LeafKind) (o : List ℕ) → IsRefusedReal kind d o e → OctetsJson kind o j → depth j ≤ d → ⊥
+  none_octets Real o (t, z, i) x le = let k = real_deep o j x t in omega (arith, k, le, z)
+  none_octets kind o x y le = x
+
   none_form : (v : Value) → IsRefusedForm d kind c names v e → LeafJson kind c names v j → depth j ≤ d → ⊥
   none_form (Integer n) x h le = x.0 j h
   none_form (Bits b) x h le = none_bits (one_size c) (cow_bits b) x h le
   none_form (Units u) x h le = x.0 j h
+  none_form (Octets o) x h le = none_octets kind (cow_slice_items o) x h le
   none_form (Arcs a) x h le = x.0 j h
   none_form (Instant t) x h le = x.0 j h
   none_form (Day t) x h le = x.0 j h

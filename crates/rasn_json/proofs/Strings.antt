@@ -1,5 +1,5 @@
 -- Each JSON string and each number is read in one way.
-use Rattle.std.proofs.Common.{◌≡◌, ◌≢◌, ℕ, zero, suc, ◌+◌, ◌/◌, ◌%◌, ◌^◌, ◌<◌, ℤ, pos, neg_ℤ, List, [], ◌∷◌, ◌++◌, Bool, true, ◌&&◌, ◌==◌, length, get_or, All, Some, Ok, inl, inr, refl, sym, ap, ◌∙◌, subst, arith, decimal}
+use Rattle.std.proofs.Common.{◌≡◌, ◌≢◌, ℕ, zero, suc, ◌/◌, ◌%◌, ◌^◌, ◌<◌, ℤ, pos, neg_ℤ, List, [], ◌∷◌, ◌++◌, Bool, true, ◌&&◌, ◌==◌, length, get_or, All, Some, Ok, inl, inr, refl, sym, ap, ap₂, ◌∙◌, subst, arith, decimal}
 use Rattle.std.specs.Prelude.{encode_utf8_all, slice_index}
 use Rattle.std.specs.List.{flat_map}
 use Rattle.std.specs.Char.Escape.{encode_utf16}
@@ -20,7 +20,8 @@ use Rattle.rasn_types.specs.CharacterString.{units_of}
 use Rattle.rasn_types.specs.declared.ber.time.text.Fields.{Fields}
 use Rattle.rasn_types.specs.Calendar.{Moment, Stamp}
 use Rattle.rasn_types.specs.Time.{TimeText, GeneralUtc, GeneralGeneralized, at_utc, both, fields_of, written_generalized, written_utc}
-use Rattle.rasn_types.specs.Text.{hexadecimal, point_and_arc, IsSmall}
+use Rattle.rasn_types.specs.Text.{dotted, hexadecimal, point_and_arc, IsSmall}
+use Rattle.rasn_schema.specs.Relative.{held_arcs}
 use Rattle.rasn_types.proofs.Dotted.{own, wide}
 use Rattle.rasn.proofs.LawsHold.Grammar.{one_meaning}
 use Rattle.rasn.proofs.ReadBack.Written.{generalized_read_back, utc_read_back}
@@ -29,7 +30,7 @@ use Rattle.rasn_schema.specs.declared.types.LeafKind.TheVariants.{UtcTime}
 use Rattle.rasn_json.specs.Decimal.{IsWhole}
 use Rattle.rasn_json.specs.Json.{HexadecimalJson}
 use Rattle.rasn_json.specs.Reading.{HexadecimalRead}
-use Rattle.rasn_json.specs.Texts.{InstantText, WrittenInstant, UnitsText, ArcsText}
+use Rattle.rasn_json.specs.Texts.{InstantText, WrittenInstant, UnitsText, ArcsText, RelativeText}
 use Rattle.rasn_json.proofs.LowFirst.{digits_of_octets}
 
 pub one_string : (s t : List ℕ) (j : Json) → j ≡ string s → as_str j ≡ Some t → s ≡ t
@@ -146,6 +147,16 @@ arcs_once s (x ∷ l) (y ∷ m) ((p, a, e), g) ((q, b, f), h) =
     let c = one_arc x y l m (All-head IsSmall x l a) (All-head IsSmall y m b) (sym e ∙ f) in
     let i = c.0 in
     let t = others_once l m (All-tail IsSmall x l a) (All-tail IsSmall y m b) c.1 in cc
+
+dotted_once : (l m : List ℕ) → l ≢ [] → m ≢ [] → All IsSmall l → All IsSmall m → dotted l ≡ dotted m → l ≡ m
+dotted_once [] m n o a b e = absurd (n refl)
+dotted_once (x ∷ l) [] n o a b e = absurd (o refl)
+dotted_once (x ∷ l) (y ∷ m) n o a b e =
+    let c = one_arc x y l m (All-head IsSmall x l a) (All-head IsSmall y m b) e in
+    ap₂ ◌∷◌ c.0 (others_once l m (All-tail IsSmall x l a) (All-tail IsSmall y m b) c.1)
+
+pub relative_once : (s l m : List ℕ) → RelativeText s l → RelativeText s m → l ≡ m
+relative_once s l m (k, n, a, e, f) (t, o, b, g, h) = f ∙ (ap held_arcs (dotted_once k t n o a b (sym e ∙ g)) ∙ sym h)
 
 -- ---- times
 

@@ -1,6 +1,6 @@
 -- JSON that was worked out by hand.
-use Rattle.std.proofs.Common.{◌≡◌, ◌⊎◌, ◌+◌, ◌-◌, ◌/◌, ◌%◌, ◌<◌, ◌≤◌, ℕ, zero, suc, pos, List, replicate, [], ◌∷◌, ◌++◌, Bool, true, false, length, length-append, Option, Some, None, All, inl, inr, refl, sym, ap, ◌∙◌, subst, arith, codes, decimal, cond}
-use Rattle.std.specs.Prelude.{nat_lt, encode_utf8_all}
+use Rattle.std.proofs.Common.{◌≡◌, ◌+◌, ◌-◌, ◌/◌, ◌%◌, ◌<◌, ◌≤◌, ℕ, zero, suc, pos, List, replicate, [], ◌∷◌, ◌++◌, Bool, true, false, length, Some, None, All, inl, inr, refl, sym, ap, ◌∙◌, subst, arith, codes, decimal, cond}
+use Rattle.std.specs.Prelude.{nat_lt}
 use Rattle.std.specs.List.{flat_map}
 use Rattle.std.specs.Str.{all_scalars}
 use Rattle.std.specs.Char.Escape.{encode_utf16}
@@ -9,20 +9,19 @@ use Rattle.std.proofs.lemmas.List.{length-replicate}
 use Rattle.std.proofs.lemmas.List.Elements.{All-from_recursion}
 use Rattle.std.proofs.lemmas.Fmt.{decimal_digit}
 use Rattle.std.proofs.lemmas.Str.{encodes_same}
-use Rattle.json.specs.Json.{Json, string, object}
-use Rattle.json.specs.Find.{as_str}
+use Rattle.json.specs.Json.{Json, string}
 use Rattle.json.specs.Print.{IsNumber}
 use Rattle.json.specs.Word.{after_number}
-use Rattle.rasn_types.specs.BitString.{Packs}
 use Rattle.rasn_types.specs.Contents.{IsShortestInteger, RepeatsSign, signed}
 use Rattle.rasn_types.specs.Framing.{AreOctets}
 use Rattle.rasn_types.proofs.Integer.Shortest.{same_shortest}
 use Rattle.rasn_types.specs.Text.{IsSmall, dotted, shown_day}
-use Rattle.rasn_schema.specs.declared.types.LeafKind.TheVariants.{BitString, NamedBits}
+use Rattle.rasn_schema.specs.declared.types.LeafKind.TheVariants.{BitString}
 use Rattle.rasn_json.specs.Decimal.{IsLong, IsWhole}
-use Rattle.rasn_json.specs.Json.{BitsJson, DigitsJson, HexadecimalJson, counted}
+use Rattle.rasn_json.specs.Json.{BitsJson, DigitsJson, counted}
 use Rattle.rasn_json.specs.Reading.{AllBitsRead}
 use Rattle.rasn_json.specs.Texts.{ArcsText, DayText, UnitsText}
+use Rattle.rasn_json.proofs.WorkedReals.{minus_zero_json, no_minus_zero, fifteen_json, zero_is_read, even_mantissa_read, string_not_read}
 use Rattle.rasn_json.proofs.Strings.{digits_again}
 use Rattle.rasn_json.specs.Worked.{day, four_bits, WorkedJson}
 
@@ -156,6 +155,12 @@ worked_json = record {
   five_is_not_long = few_octets;
   too_many_octets = many_octets;
   no_number_of_too_many = λ k j le h. h.0 (many_octets k le);
+  minus_zero = minus_zero_json;
+  minus_zero_is_no_number = no_minus_zero;
+  fifteen_tenths = fifteen_json;
+  zero_is_read = zero_is_read;
+  an_even_mantissa_is_read = even_mantissa_read;
+  no_number_in_a_string = string_not_read;
 }
   where
     not_read : (bs : List Bool) → AllBitsRead None (string (codes "A0")) bs → ⊥

@@ -16,7 +16,7 @@ use Rattle.rasn_types.specs.CowBits.{cow_bits}
 use Rattle.rasn_types.specs.Framing.{AreOctets}
 use Rattle.rasn_types.specs.Text.{hexadecimal}
 use Rattle.rasn_schema.specs.declared.types.LeafKind.{LeafKind}
-use Rattle.rasn_schema.specs.declared.types.LeafKind.TheVariants.{Signed64, OctetString, FixedOctetString, NamedBits}
+use Rattle.rasn_schema.specs.declared.types.LeafKind.TheVariants.{Signed64, OctetString, FixedOctetString, NamedBits, RelativeOid, Real, TimeOfDay, DateTime}
 use Rattle.rasn_schema.specs.declared.types.NamedNumber.{NamedNumber}
 use Rattle.rasn_schema.specs.declared.types.Alternative.{Alternative}
 use Rattle.rasn_schema.specs.declared.types.Component.{Component}
@@ -26,7 +26,8 @@ use Rattle.rasn_schema.specs.declared.value.Value.{Value, Boolean, Null, Integer
 use Rattle.rasn_schema.specs.Trees.{tree_of}
 use Rattle.rasn_schema.specs.Shapes.{presence_of}
 use Rattle.rasn_json.specs.Decimal.{IsLong, IsWhole}
-use Rattle.rasn_json.specs.Texts.{WrittenInstant, UnitsText, ArcsText, DayText}
+use Rattle.rasn_json.specs.Reals.{IsDecimalReal, RealJson}
+use Rattle.rasn_json.specs.Texts.{WrittenInstant, UnitsText, ArcsText, RelativeText, DayText, shown_digits}
 use Rattle.rasn_schema.specs.Fitting.{AreItems, AreElements, FitsLeaf, IsListOf, IsChosen, IsLeftOutAs}
 use Rattle.rasn_schema.specs.Held.{is_unknown_found}
 
@@ -69,6 +70,9 @@ OpenJson _ j = ⊥
 abbrev pub OctetsJson : LeafKind → List ℕ → Json → Type 0
 OctetsJson OctetString o j = HexadecimalJson o j
 OctetsJson (FixedOctetString n) o j = HexadecimalJson o j
+OctetsJson Real o j = RealJson o j
+OctetsJson TimeOfDay o j = j ≡ string (shown_digits o)
+OctetsJson DateTime o j = j ≡ string (shown_digits o)
 OctetsJson _ o j = j ≡ string (encode_utf8_all o)
 
 -- The one size that a constraint admits, if there is one.
@@ -113,8 +117,13 @@ BitsJson kind None bs j = CountedJson bs j
 abbrev pub UnitsJson : List ℕ → Json → Type 0
 UnitsJson octets j = (s : List ℕ) × (j ≡ string s) × UnitsText s octets
 
-abbrev pub ArcsJson : List ℕ → Json → Type 0
-ArcsJson a j = (s : List ℕ) × (j ≡ string s) × ArcsText s a
+-- The arcs of an OBJECT IDENTIFIER, or those of a RELATIVE-OID that they hold.
+abbrev pub TextOfArcs : LeafKind → List ℕ → List ℕ → Type 0
+TextOfArcs RelativeOid s a = RelativeText s a
+TextOfArcs _ s a = ArcsText s a
+
+abbrev pub ArcsJson : LeafKind → List ℕ → Json → Type 0
+ArcsJson kind a j = (s : List ℕ) × (j ≡ string s) × TextOfArcs kind s a
 
 -- The text of an instant, as DER has it.
 abbrev pub InstantJson : LeafKind → Moment → Json → Type 0
@@ -133,15 +142,16 @@ LeafJson kind c names (Bits b) j = BitsJson kind (one_size c) (cow_bits b) j
 LeafJson kind c names (Octets o) j = OctetsJson kind (cow_slice_items o) j
 LeafJson kind c names (Text s) j = j ≡ string (cow_str_bytes s)
 LeafJson kind c names (Units u) j = UnitsJson u j
-LeafJson kind c names (Arcs a) j = ArcsJson a j
+LeafJson kind c names (Arcs a) j = ArcsJson kind a j
 LeafJson kind c names (Instant t) j = InstantJson kind t.moment j
 LeafJson kind c names (OnDay d) j = DayJson d j
 LeafJson kind c names _ j = ⊥
 
--- Bits are an object exactly if their type has no one size.
-abbrev pub IsCounted : Constraints → Value → Type 0
-IsCounted c (Bits b) = one_size c ≡ None
-IsCounted c _ = ⊥
+-- Bits are an object exactly if their type has no one size, and a REAL if its base is 10.
+abbrev pub IsCounted : LeafKind → Constraints → Value → Type 0
+IsCounted kind c (Bits b) = one_size c ≡ None
+IsCounted Real c (Octets o) = IsDecimalReal (cow_slice_items o)
+IsCounted kind c _ = ⊥
 
 -- ---- values that hold others. Of a type with a number, g tells which JSON a value has, and u whether it is that of unknown values.
 

@@ -1,5 +1,6 @@
 pub mod Decimal
 pub mod Texts
+pub mod Reals
 pub mod Json
 pub mod Reading
 pub mod Names

@@ -15,7 +15,7 @@ use Rattle.rasn_types.specs.Calendar.{Day, Moment}
 use Rattle.rasn_types.specs.BitString.{significant}
 use Rattle.rasn_types.specs.CowBits.{cow_bits}
 use Rattle.rasn_schema.specs.declared.types.LeafKind.{LeafKind}
-use Rattle.rasn_schema.specs.declared.types.LeafKind.TheVariants.{NamedBits, OctetString, FixedOctetString}
+use Rattle.rasn_schema.specs.declared.types.LeafKind.TheVariants.{NamedBits, OctetString, FixedOctetString, RelativeOid, Real, TimeOfDay, DateTime}
 use Rattle.rasn_schema.specs.declared.types.NamedNumber.{NamedNumber}
 use Rattle.rasn_schema.specs.declared.types.Alternative.{Alternative}
 use Rattle.rasn_schema.specs.declared.types.Component.{Component}
@@ -26,7 +26,8 @@ use Rattle.rasn_schema.specs.Trees.{tree_of}
 use Rattle.rasn_schema.specs.Shapes.{presence_of}
 use Rattle.rasn_schema.specs.Fitting.{AreItems, AreElements, FitsLeaf, IsChosen}
 use Rattle.rasn_json.specs.Decimal.{IsWhole}
-use Rattle.rasn_json.specs.Texts.{InstantText, UnitsText, ArcsText, DayText, ArePacked}
+use Rattle.rasn_json.specs.Reals.{RealRead}
+use Rattle.rasn_json.specs.Texts.{InstantText, UnitsText, ArcsText, RelativeText, DayText, ArePacked, shown_digits}
 use Rattle.rasn_json.specs.Json.{IsExtensible, IsNothing, unknown_in, one_size}
 
 -- ---- names of members
@@ -85,6 +86,9 @@ OpenRead j _ = ⊥
 abbrev pub OctetsRead : LeafKind → Json → List ℕ → Type 0
 OctetsRead OctetString j o = HexadecimalRead j o
 OctetsRead (FixedOctetString n) j o = HexadecimalRead j o
+OctetsRead Real j o = RealRead j o
+OctetsRead TimeOfDay j o = as_str j ≡ Some (shown_digits o)
+OctetsRead DateTime j o = as_str j ≡ Some (shown_digits o)
 OctetsRead _ j o = as_str j ≡ Some (encode_utf8_all o)
 
 -- So many bits in hexadecimal digits.
@@ -111,6 +115,13 @@ UnitsRead j octets = (s : List ℕ) × (as_str j ≡ Some s) × UnitsText s octe
 abbrev pub ArcsRead : Json → List ℕ → Type 0
 ArcsRead j a = (s : List ℕ) × (as_str j ≡ Some s) × ArcsText s a
 
+abbrev pub RelativeRead : Json → List ℕ → Type 0
+RelativeRead j a = (s : List ℕ) × (as_str j ≡ Some s) × RelativeText s a
+
+abbrev pub ArcsReadBy : LeafKind → Json → List ℕ → Type 0
+ArcsReadBy RelativeOid j a = RelativeRead j a
+ArcsReadBy _ j a = ArcsRead j a
+
 abbrev pub InstantRead : LeafKind → Json → Moment → Type 0
 InstantRead kind j m = (s : List ℕ) × (as_str j ≡ Some s) × InstantText kind s m
 
@@ -127,7 +138,7 @@ LeafRead kind c names j (Bits b) = BitsRead kind (one_size c) j (cow_bits b)
 LeafRead kind c names j (Octets o) = OctetsRead kind j (cow_slice_items o)
 LeafRead kind c names j (Text s) = as_str j ≡ Some (cow_str_bytes s)
 LeafRead kind c names j (Units u) = UnitsRead j u
-LeafRead kind c names j (Arcs a) = ArcsRead j a
+LeafRead kind c names j (Arcs a) = ArcsReadBy kind j a
 LeafRead kind c names j (Instant t) = InstantRead kind j t.moment
 LeafRead kind c names j (OnDay d) = DayRead j d
 LeafRead kind c names j _ = ⊥

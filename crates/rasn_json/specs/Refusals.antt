@@ -7,12 +7,15 @@ use Rattle.rasn_types.specs.Shapes.{constraint_of}
 use Rattle.rasn_types.specs.declared.types.constraints.Constraints.{Constraints}
 use Rattle.rasn_schema.specs.declared.type_id.TypeId.{TypeId}
 use Rattle.rasn_schema.specs.declared.types.LeafKind.{LeafKind}
+use Rattle.rasn_schema.specs.declared.types.LeafKind.TheVariants.{Real}
+use Rattle.std.specs.Cow.{cow_slice_items}
+use Rattle.rasn_json.specs.Reals.{IsDecimalReal}
 use Rattle.rasn_schema.specs.declared.types.NamedNumber.{NamedNumber}
 use Rattle.rasn_schema.specs.declared.types.Alternative.{Alternative}
 use Rattle.rasn_schema.specs.declared.types.Component.{Component}
 use Rattle.rasn_schema.specs.declared.types.«Type».{«Type»}
 use Rattle.rasn_schema.specs.declared.types.«Type».TheVariants.{Leaf, Enumerated, Any, Tagged, Choice, Sequence, Set, SequenceOf, SetOf, Unknown}
-use Rattle.rasn_schema.specs.declared.value.Value.{Value, Bits, Integer as Number, Units, Arcs, Instant, Day as OnDay}
+use Rattle.rasn_schema.specs.declared.value.Value.{Value, Bits, Octets, Integer as Number, Units, Arcs, Instant, Day as OnDay}
 use Rattle.rasn_schema.specs.Fitting.{AreItems, AreElements, FitsLeaf, IsChosen, IsNoList, IsNoSet}
 use Rattle.rasn_json.specs.declared.error.JsonError.{JsonError}
 use Rattle.rasn_json.specs.declared.error.JsonErrorKind.{JsonErrorKind}
@@ -63,12 +66,18 @@ AreRefusedBits depth kind c (Some n) bs e =
     (IsSize kind n (length bs) → ⊥) × IsOfItself (WrongSize (length bs) (constraint_of c.size)) e
 AreRefusedBits depth kind c None bs e = (depth ≡ 0) × IsOfItself TooDeep e
 
+-- A REAL with base 10 would be an object where none may be nested.
+abbrev pub IsRefusedReal : LeafKind → ℕ → List ℕ → JsonError → Type 0
+IsRefusedReal Real depth o e = IsDecimalReal o × (depth ≡ 0) × IsOfItself TooDeep e
+IsRefusedReal _ depth o e = ⊥
+
 -- A value of the kind has no text, or its bits are refused, or its number has too many octets.
 abbrev pub IsRefusedForm : ℕ → LeafKind → Constraints → List NamedNumber → Value → JsonError → Type 0
 IsRefusedForm depth kind c names (Number n) e = HasNone LongNumber (IntegerJson kind names n) e
 IsRefusedForm depth kind c names (Bits b) e = AreRefusedBits depth kind c (one_size c) (cow_bits b) e
 IsRefusedForm depth kind c names (Units u) e = HasNone NoJson (UnitsJson u) e
-IsRefusedForm depth kind c names (Arcs a) e = HasNone NoJson (ArcsJson a) e
+IsRefusedForm depth kind c names (Octets o) e = IsRefusedReal kind depth (cow_slice_items o) e
+IsRefusedForm depth kind c names (Arcs a) e = HasNone NoJson (ArcsJson kind a) e
 IsRefusedForm depth kind c names (Instant t) e = HasNone NoJson (InstantJson kind t.moment) e
 IsRefusedForm depth kind c names (OnDay d) e = HasNone NoJson (DayJson d) e
 IsRefusedForm depth kind c names _ e = ⊥

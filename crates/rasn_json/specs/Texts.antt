@@ -6,6 +6,8 @@ use Rattle.rasn_types.specs.Time.{GeneralUtc, GeneralGeneralized, CarriedDay, Ca
 use Rattle.rasn_types.specs.Text.{IsDotted, shown_day}
 use Rattle.rasn_types.specs.BitString.{bits_from}
 use Rattle.rasn_types.specs.CharacterString.{units_of}
+use Rattle.rasn_schema.specs.Relative.{IsRelativeText}
+pub use Rattle.rasn_schema.specs.TimeTexts.{shown_digits}
 use Rattle.rasn_schema.specs.declared.types.LeafKind.{LeafKind}
 use Rattle.rasn_schema.specs.declared.types.LeafKind.TheVariants.{UtcTime}
 
@@ -44,6 +46,10 @@ HaveSubidentifier (x ∷ y ∷ l) = (x ≡ 2) ⊎ (y < 40)
 -- Arcs of 32 bits in decimal, with a point between each two.
 abbrev pub ArcsText : List ℕ → List ℕ → Type 0
 ArcsText s a = IsDotted s a × HaveSubidentifier a
+
+-- The arcs of a RELATIVE-OID, as those of an OBJECT IDENTIFIER hold them.
+abbrev pub RelativeText : List ℕ → List ℕ → Type 0
+RelativeText s a = IsRelativeText s a
 
 -- A day with a year of four digits: YYYY-MM-DD.
 abbrev pub DayText : List ℕ → Day → Type 0

@@ -1,5 +1,5 @@
 -- JSON that was worked out by hand: what is the JSON of a value, and what isn't.
-use Rattle.std.specs.Prelude.{◌≡◌, ◌≤◌, ℕ, pos, List, [], ◌∷◌, replicate, Bool, true, false, Some, None, codes}
+use Rattle.std.specs.Prelude.{◌≤◌, ℕ, pos, List, [], ◌∷◌, replicate, Bool, true, false, Some, None, codes}
 use Rattle.json.specs.Json.{Json, number, string}
 use Rattle.rasn_types.specs.Calendar.{Day}
 use Rattle.rasn_types.specs.Contents.{signed}
@@ -7,6 +7,7 @@ use Rattle.rasn_schema.specs.declared.types.LeafKind.TheVariants.{BitString, Nam
 use Rattle.rasn_json.specs.Decimal.{IsLong}
 use Rattle.rasn_json.specs.Json.{BitsJson, NumberJson, counted}
 use Rattle.rasn_json.specs.Reading.{AllBitsRead}
+use Rattle.rasn_json.specs.Reals.{base_ten, RealJson, RealRead}
 use Rattle.rasn_json.specs.Texts.{ArcsText, DayText, UnitsText}
 
 -- 1010
@@ -38,3 +39,10 @@ pub record WorkedJson : Type 0 where
   pub five_is_not_long : IsLong (pos 5) → ⊥
   pub too_many_octets : (k : ℕ) → 16384 ≤ k → IsLong (signed (1 ∷ replicate k 0))
   pub no_number_of_too_many : (k : ℕ) (j : Json) → 16384 ≤ k → NumberJson (signed (1 ∷ replicate k 0)) j → ⊥
+  pub minus_zero : RealJson (67 ∷ []) (string (codes "-0"))
+  pub minus_zero_is_no_number : RealJson (67 ∷ []) (number (codes "0")) → ⊥
+  pub fifteen_tenths : RealJson (3 ∷ codes "15.E-1") (base_ten (codes "15E-1"))
+  pub zero_is_read : RealRead (number (codes "0")) []
+  -- -6 * 2^5000, which is -3 * 2^5001
+  pub an_even_mantissa_is_read : RealRead (string (codes "{mantissa -6, base 2, exponent 5000}")) (193 ∷ (19 ∷ (137 ∷ (3 ∷ []))))
+  pub no_number_in_a_string : (octets : List ℕ) → RealRead (string (codes "1")) octets → ⊥

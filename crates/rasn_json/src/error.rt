@@ -115,6 +115,9 @@ pub enum JsonErrorKind {
     /// The string isn't a time of the type.
     #[error("expected a time as the type writes it")]
     NotTime,
+    /// The JSON value is none of a REAL: a number, an object of one with base 10, or a string.
+    #[error("expected a number, an object with base10Value, or -0, INF, -INF or NaN")]
+    NotReal,
     /// The value isn't one of the type.
     #[error("the value doesn't fit its type")]
     Unfit,

@@ -19,6 +19,7 @@ mod members;
 mod number;
 mod read_leaf;
 mod reader;
+mod reals;
 mod syntax;
 mod times;
 mod tokens;

@@ -6,7 +6,9 @@ ghost use Rattle.rasn_types.specs.CharacterString.{AreAdmitted};
 ghost use Rattle.rasn_types.specs.CowBits.{cow_bits};
 ghost use Rattle.rasn_schema.specs.Fitting.{AreOctets, FitsLeaf};
 ghost use Rattle.rasn_json.specs.Json.{one_size};
-ghost use Rattle.rasn_json.specs.Reading.{AllBitsRead, ArcsRead, DayRead, HexadecimalRead, InstantRead, LeafRead, NamedBitsRead, OpenRead, UnitsRead};
+ghost use Rattle.rasn_types.specs.Contents.{IsTimeText, AreTimeDigits};
+ghost use Rattle.rasn_json.specs.Texts.{shown_digits};
+ghost use Rattle.rasn_json.specs.Reading.{RelativeRead, AllBitsRead, ArcsRead, DayRead, HexadecimalRead, InstantRead, LeafRead, NamedBitsRead, OpenRead, UnitsRead};
 
 use crate::arcs::have_subidentifier;
 use crate::bits::bits_of;
@@ -15,9 +17,10 @@ use crate::digits::octets_in;
 use crate::error::{JsonError, JsonErrorKind, or_memory};
 use crate::found::{other_form, string_of};
 use crate::number::{extensible_value, integer_value, is_enumerated};
+use crate::reals::real_of;
 use crate::times::{day_of, instant_of};
 use json::Value as Json;
-use rasn_schema::{LeafKind, NamedNumber, Value};
+use rasn_schema::{LeafKind, NamedNumber, RelativeOid, Value, is_time_text, time_digits};
 use rasn_types::types::{
     Alphabet, BitString, BmpString, Bounded, Constraints, CowBits, Date, GeneralizedTime,
     ObjectIdentifier,
@@ -57,12 +60,15 @@ pub fn leaf_value<'any>(
             }
         }
         LeafKind::ObjectIdentifier => Ok(Value::Arcs(arcs_of(alloc, json)?)),
+        LeafKind::RelativeOid => Ok(Value::Arcs(relative_arcs_of(alloc, json)?)),
         LeafKind::BitString => {
             let bits = sized_bits(alloc, constraints, json)?;
             Ok(Value::Bits(CowBits::Owned(bits)))
         }
         LeafKind::NamedBits => Ok(Value::Bits(named_bits(alloc, constraints, json)?)),
-        LeafKind::Utf8 => Ok(Value::Text(CowStr::Owned(text_of(alloc, constraints, json)?))),
+        LeafKind::Utf8 | LeafKind::Universal => {
+            Ok(Value::Text(CowStr::Owned(text_of(alloc, constraints, json)?)))
+        }
         LeafKind::Bmp => Ok(Value::Units(sized_units(alloc, constraints, json)?)),
         LeafKind::UtcTime => Ok(Value::Instant(time_of(alloc, LeafKind::UtcTime, json)?)),
         LeafKind::GeneralizedTime => {
@@ -70,6 +76,13 @@ pub fn leaf_value<'any>(
             Ok(Value::Instant(time))
         }
         LeafKind::Date => Ok(Value::Day(sole_day(alloc, json)?)),
+        LeafKind::Real => Ok(Value::Octets(CowSlice::Owned(real_of(alloc, json)?))),
+        LeafKind::Time | LeafKind::Duration => {
+            let octets = time_text_of(alloc, json)?;
+            Ok(Value::Octets(CowSlice::Owned(octets)))
+        }
+        LeafKind::TimeOfDay => Ok(Value::Octets(CowSlice::Owned(digits_of(alloc, 6, json)?))),
+        LeafKind::DateTime => Ok(Value::Octets(CowSlice::Owned(digits_of(alloc, 14, json)?))),
         LeafKind::OctetString => {
             let octets = sized_octets(alloc, constraints, json)?;
             Ok(Value::Octets(CowSlice::Owned(octets)))
@@ -111,6 +124,41 @@ fn arcs_of(alloc: Global, json: &Json<'_>) -> Result<ObjectIdentifier, JsonError
         }
     }
     Err(JsonError::new(alloc, JsonErrorKind::NotArcs))
+}
+
+/// Returns the arcs of a RELATIVE-OID, as an OBJECT IDENTIFIER holds them.
+fn relative_arcs_of(alloc: Global, json: &Json<'_>) -> Result<ObjectIdentifier, JsonError>
+    ensures { IfOk result (RelativeRead (value_view json.now)) }
+{
+    let text = string_of(alloc, "a string", json)?;
+    match or_memory(alloc, RelativeOid::parse(alloc, text))? {
+        Some(arcs) => Ok(arcs),
+        None => Err(JsonError::new(alloc, JsonErrorKind::NotArcs)),
+    }
+}
+
+/// Returns the characters of a TIME or a DURATION.
+fn time_text_of(alloc: Global, json: &Json<'_>) -> Result<Vec<u8>, JsonError>
+    ensures admitted { IfOk result (λ octets. IsTimeText octets.items) }
+    ensures reads { IfOk result (λ octets. as_str (value_view json.now) ≡ Some (encode_utf8_all octets.items)) }
+{
+    let octets = octets_of(alloc, string_of(alloc, "a string", json)?)?;
+    if is_time_text(&octets) {
+        return Ok(octets);
+    }
+    Err(JsonError::new(alloc, JsonErrorKind::NotTime))
+}
+
+/// Returns the digits of a TIME-OF-DAY or a DATE-TIME, of which there are so many.
+fn digits_of(alloc: Global, count: usize, json: &Json<'_>) -> Result<Vec<u8>, JsonError>
+    ensures admitted { IfOk result (λ octets. AreTimeDigits count octets.items) }
+    ensures reads { IfOk result (λ octets. as_str (value_view json.now) ≡ Some (shown_digits octets.items)) }
+{
+    let text = string_of(alloc, "a string", json)?;
+    match or_memory(alloc, time_digits(alloc, count, text))? {
+        Some(digits) => Ok(digits),
+        None => Err(JsonError::new(alloc, JsonErrorKind::NotTime)),
+    }
 }
 
 fn wrong_size(alloc: Global, size: usize, expected: Bounded<usize>) -> JsonError {

@@ -6,10 +6,12 @@ ghost use Rattle.json.specs.Json.{string};
 ghost use Rattle.json.specs.Token.{number};
 ghost use Rattle.rasn_types.specs.BitString.{zeros};
 ghost use Rattle.rasn_types.specs.Truth.{IsWhether};
-ghost use Rattle.rasn_schema.specs.Fitting.{FitsLeaf};
+ghost use Rattle.rasn_schema.specs.declared.types.LeafKind.TheVariants.{Real, RelativeOid as Relative};
+ghost use Rattle.rasn_schema.specs.Fitting.{FitsLeaf, OctetsFit};
 ghost use Rattle.rasn_json.specs.Json.{Appends, ArcsJson, BitsJson, CountedJson, DayJson, DigitsJson, EnumeratedJson, HexadecimalJson, InstantJson, IntegerJson, IsCounted, IsExtensible, IsSize, IsUnnamed, LeafJson, NameJson, NumberJson, OctetsJson, OpenJson, ArrayJson, UnitsJson, one_size};
 ghost use Rattle.rasn_json.specs.declared.error.JsonErrorKind.TheVariants.{LongNumber, NoJson, Unfit};
-ghost use Rattle.rasn_json.specs.Refusals.{AreRefusedBits, AreRefusedElements, HasNone, HasOpen, IsMemory, IsOfItself, IsRefusedLeaf, IsRefusedOpen, OrMemory};
+ghost use Rattle.rasn_json.specs.Refusals.{AreRefusedBits, AreRefusedElements, HasNone, HasOpen, IsMemory, IsOfItself, IsRefusedLeaf, IsRefusedOpen, IsRefusedReal, OrMemory};
+ghost use Rattle.rasn_json.specs.Reals.{IsDecimalReal};
 
 use crate::arcs::have_subidentifier;
 use crate::bits::fixed_size;
@@ -18,10 +20,11 @@ use crate::decimal::decimal_of;
 use crate::digits::digits_of;
 use crate::error::{JsonError, JsonErrorKind, or_memory};
 use crate::number::{is_enumerated, name_of};
+use crate::reals::put_real;
 use crate::times::{text_of_day, text_of_instant};
 use crate::tokens::Tokens;
 use json::Token;
-use rasn_schema::{LeafKind, NamedNumber, Value, leaf_fits};
+use rasn_schema::{LeafKind, NamedNumber, RelativeOid, TimeDigits, Value, leaf_fits};
 use rasn_types::types::{
     BitStr, BitString, BmpString, Constraints, Date, GeneralizedTime, Integer, ObjectIdentifier,
 };
@@ -246,19 +249,28 @@ fn put_size<T: Tokens>(out: &mut T, alloc: Global, size: usize) -> Result<(), Js
     put(out, alloc, Token::Number(buffer.format(size)))
 }
 
-/// Appends octets: as hexadecimal digits, or as the characters that they are.
+/// Appends octets: as hexadecimal digits, as the characters that they are, or as what they mean.
 fn put_octets<T: Tokens>(
     out: &mut T,
     alloc: Global,
+    depth: usize,
     kind: LeafKind,
     octets: &[u8],
 ) -> Result<(), JsonError>
+    requires { OctetsFit kind octets.now }
     ensures ok { OnOk result (Appends (OctetsJson kind octets.now) (T.Tokens.written out.old) (T.Tokens.written out.new)) }
-    ensures err { IfErr result IsMemory }
+    ensures nested { OnOk result (kind ≡ Real → IsDecimalReal octets.now → 0 < depth) }
+    ensures err { IfErr result (OrMemory (IsRefusedReal kind depth octets.now)) }
 {
     match kind {
         LeafKind::OctetString => put_digits(out, alloc, octets),
         LeafKind::FixedOctetString(_) => put_digits(out, alloc, octets),
+        LeafKind::Real => put_real(out, alloc, depth, octets),
+        LeafKind::TimeOfDay | LeafKind::DateTime => {
+            let digits = TimeDigits { digits: octets };
+            let text = or_memory(alloc, format!(in alloc; "{digits}"))?;
+            put(out, alloc, Token::String(text.as_str()))
+        }
         _ => {
             let text = or_memory(alloc, text_of(alloc, octets))?;
             put(out, alloc, Token::String(text.as_str()))
@@ -275,12 +287,38 @@ fn put_units<T: Tokens>(out: &mut T, alloc: Global, units: &BmpString) -> Result
     put(out, alloc, Token::String(text.as_str()))
 }
 
-/// Appends the arcs of an OBJECT IDENTIFIER, if they have a subidentifier, as they have to where
-/// they are read.
-fn put_arcs<T: Tokens>(out: &mut T, alloc: Global, arcs: &ObjectIdentifier) -> Result<(), JsonError>
-    ensures ok { OnOk result (Appends (ArcsJson arcs.now) (T.Tokens.written out.old) (T.Tokens.written out.new)) }
-    ensures err { IfErr result (OrMemory (HasNone NoJson (ArcsJson arcs.now))) }
+/// Appends the arcs of a RELATIVE-OID that these hold, if they have a subidentifier of 32 bits, as
+/// they have to where they are read.
+fn put_relative<T: Tokens>(
+    out: &mut T,
+    alloc: Global,
+    arcs: &ObjectIdentifier,
+) -> Result<(), JsonError>
+    ensures ok { OnOk result (Appends (ArcsJson Relative arcs.now) (T.Tokens.written out.old) (T.Tokens.written out.new)) }
+    ensures err { IfErr result (OrMemory (HasNone NoJson (ArcsJson Relative arcs.now))) }
 {
+    let relative = RelativeOid { held: arcs };
+    if !have_subidentifier(arcs.arcs()) || relative.first() > u64::from(u32::MAX) {
+        return Err(JsonError::new(alloc, JsonErrorKind::NoJson));
+    }
+    let text = or_memory(alloc, format!(in alloc; "{relative}"))?;
+    put(out, alloc, Token::String(text.as_str()))
+}
+
+/// Appends the arcs of an OBJECT IDENTIFIER, or those of a RELATIVE-OID that they hold, if they
+/// have a subidentifier, as they have to where they are read.
+fn put_arcs<T: Tokens>(
+    out: &mut T,
+    alloc: Global,
+    kind: LeafKind,
+    arcs: &ObjectIdentifier,
+) -> Result<(), JsonError>
+    ensures ok { OnOk result (Appends (ArcsJson kind arcs.now) (T.Tokens.written out.old) (T.Tokens.written out.new)) }
+    ensures err { IfErr result (OrMemory (HasNone NoJson (ArcsJson kind arcs.now))) }
+{
+    if kind == LeafKind::RelativeOid {
+        return put_relative(out, alloc, arcs);
+    }
     if !have_subidentifier(arcs.arcs()) {
         return Err(JsonError::new(alloc, JsonErrorKind::NoJson));
     }
@@ -334,7 +372,7 @@ pub fn put_leaf<T: Tokens>(
 ) -> Result<(), JsonError>
     ensures fits { OnOk result (FitsLeaf leaf.entry.kind value.now) }
     ensures json { OnOk result (Appends (LeafJson leaf.entry.kind leaf.entry.constraints.now leaf.entry.names.now value.now) (T.Tokens.written out.old) (T.Tokens.written out.new)) }
-    ensures nested { OnOk result (IsCounted leaf.entry.constraints.now value.now → 0 < depth) }
+    ensures nested { OnOk result (IsCounted leaf.entry.kind leaf.entry.constraints.now value.now → 0 < depth) }
     ensures err { IfErr result (OrMemory (IsRefusedLeaf depth leaf.entry.kind leaf.entry.constraints.now leaf.entry.names.now value.now)) }
 {
     let Leaf {
@@ -350,10 +388,10 @@ pub fn put_leaf<T: Tokens>(
         Value::Null => put(out, alloc, Token::Null),
         Value::Integer(number) => put_integer(out, alloc, kind, names, number),
         Value::Bits(bits) => put_bits(out, alloc, depth, kind, constraints, &bits.as_bitstr()),
-        Value::Octets(octets) => put_octets(out, alloc, kind, octets.as_slice()),
+        Value::Octets(octets) => put_octets(out, alloc, depth, kind, octets.as_slice()),
         Value::Text(text) => put(out, alloc, Token::String(text.as_str())),
         Value::Units(units) => put_units(out, alloc, units),
-        Value::Arcs(arcs) => put_arcs(out, alloc, arcs),
+        Value::Arcs(arcs) => put_arcs(out, alloc, kind, arcs),
         Value::Instant(time) => put_instant(out, alloc, kind, time),
         Value::Day(day) => put_day(out, alloc, day),
         Value::Items(_) | Value::Elements(_) | Value::Chosen(_, _) | Value::Absent => {

@@ -117,7 +117,7 @@ fn kept_leaf<T: Tokens>(
 ) -> Result<(), Refused>
     ensures fits { OnOk result (FitsLeaf leaf.entry.kind value.now) }
     ensures json { OnOk result (Appends (LeafJson leaf.entry.kind leaf.entry.constraints.now leaf.entry.names.now value.now) (T.Tokens.written out.old) (T.Tokens.written out.new)) }
-    ensures nested { OnOk result (IsCounted leaf.entry.constraints.now value.now → 0 < place.now.depth) }
+    ensures nested { OnOk result (IsCounted leaf.entry.kind leaf.entry.constraints.now value.now → 0 < place.now.depth) }
     ensures err { OnErr result (OrMemory (IsRefusedLeaf place.now.depth leaf.entry.kind leaf.entry.constraints.now leaf.entry.names.now value.now) error.new) }
 {
     kept(put_leaf(out, place.alloc, place.depth, leaf, value), error)

@@ -1,3 +1,4 @@
+// Written by `soqavise generate` from the ASN.1 of LDAP: change that, and write it again.
 //! `AbandonRequest ::= [APPLICATION 16] IMPLICIT MaxInt`
 use crate::MaxInt;
 use rasn::prelude::*;

@@ -1,3 +1,4 @@
+// Written by `soqavise generate` from the ASN.1 of LDAP: change that, and write it again.
 //! `Attribute ::= SEQUENCE`
 use crate::{AttributeVals, LdapString};
 use rasn::prelude::*;

@@ -1,3 +1,4 @@
+// Written by `soqavise generate` from the ASN.1 of LDAP: change that, and write it again.
 //! `Attribute-vals ::= [UNIVERSAL 17] IMPLICIT SEQUENCE (SIZE (1..MAX)) OF AttributeValue`
 use crate::AttributeValue;
 use rasn::prelude::*;

@@ -1,3 +1,4 @@
+// Written by `soqavise generate` from the ASN.1 of LDAP: change that, and write it again.
 //! `AttributeValueAssertion ::= SEQUENCE`
 use crate::{AssertionValue, LdapString};
 use rasn::prelude::*;

@@ -1,3 +1,4 @@
+// Written by `soqavise generate` from the ASN.1 of LDAP: change that, and write it again.
 //! `BindRequest ::= [APPLICATION 0] IMPLICIT SEQUENCE`
 use crate::{AuthenticationChoice, BindRequestVersion, LdapString};
 use rasn::prelude::*;

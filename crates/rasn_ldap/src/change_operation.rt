@@ -1,3 +1,4 @@
+// Written by `soqavise generate` from the ASN.1 of LDAP: change that, and write it again.
 //! `Change-operation ::= ENUMERATED { add(0), delete(1), replace(2), ... }`
 use rasn::prelude::*;
 

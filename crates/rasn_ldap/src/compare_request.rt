@@ -1,3 +1,4 @@
+// Written by `soqavise generate` from the ASN.1 of LDAP: change that, and write it again.
 //! `CompareRequest ::= [APPLICATION 14] IMPLICIT SEQUENCE`
 use crate::{AttributeValueAssertion, LdapString};
 use rasn::prelude::*;

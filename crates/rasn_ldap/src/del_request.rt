@@ -1,3 +1,4 @@
+// Written by `soqavise generate` from the ASN.1 of LDAP: change that, and write it again.
 //! `DelRequest ::= [APPLICATION 10] IMPLICIT UTF8String`
 use rasn::prelude::*;
 

@@ -1,3 +1,4 @@
+// Written by `soqavise generate` from the ASN.1 of LDAP: change that, and write it again.
 //! `IntermediateResponse ::= [APPLICATION 25] IMPLICIT SEQUENCE`
 use rasn::prelude::*;
 

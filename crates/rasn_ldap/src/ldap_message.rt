@@ -1,3 +1,4 @@
+// Written by `soqavise generate` from the ASN.1 of LDAP: change that, and write it again.
 //! `LDAPMessage ::= SEQUENCE`
 use crate::{Control, MaxInt, ProtocolOp};
 use rasn::prelude::*;

@@ -1,3 +1,4 @@
+// Written by `soqavise generate` from the ASN.1 of LDAP: change that, and write it again.
 //! `LDAPResult ::= SEQUENCE`
 use crate::{LdapString, Referral, ResultCode};
 use rasn::prelude::*;

@@ -1,3 +1,4 @@
+// Written by `soqavise generate` from the ASN.1 of LDAP: change that, and write it again.
 //! `MaxInt ::= INTEGER (0..2147483647)`
 use rasn::prelude::*;
 

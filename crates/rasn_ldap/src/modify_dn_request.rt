@@ -1,3 +1,4 @@
+// Written by `soqavise generate` from the ASN.1 of LDAP: change that, and write it again.
 //! `ModifyDNRequest ::= [APPLICATION 12] IMPLICIT SEQUENCE`
 use crate::LdapString;
 use rasn::prelude::*;

@@ -1,3 +1,4 @@
+// Written by `soqavise generate` from the ASN.1 of LDAP: change that, and write it again.
 //! `ModifyRequest ::= [APPLICATION 6] IMPLICIT SEQUENCE`
 use crate::{Change, LdapString};
 use rasn::prelude::*;

@@ -1,3 +1,4 @@
+// Written by `soqavise generate` from the ASN.1 of LDAP: change that, and write it again.
 //! `ModifyResponse ::= [APPLICATION 7] IMPLICIT LDAPResult`
 use crate::LdapResult;
 use rasn::prelude::*;

@@ -1,3 +1,4 @@
+// Written by `soqavise generate` from the ASN.1 of LDAP: change that, and write it again.
 //! `ResultCode ::= ENUMERATED { success(0), operationsError(1), protocolError(2),
 //! timeLimitExceeded(3), sizeLimitExceeded(4), compareFalse(5), compareTrue(6),
 //! authMethodNotSupported(7), strongerAuthRequired(8), referral(10), adminLimitExceeded(11),

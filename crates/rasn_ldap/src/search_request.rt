@@ -1,3 +1,4 @@
+// Written by `soqavise generate` from the ASN.1 of LDAP: change that, and write it again.
 //! `SearchRequest ::= [APPLICATION 3] IMPLICIT SEQUENCE`
 use crate::{
     AttributeSelection, Filter, LdapString, MaxInt, SearchRequestDerefAliases, SearchRequestScope,

@@ -1,3 +1,4 @@
+// Written by `soqavise generate` from the ASN.1 of LDAP: change that, and write it again.
 //! `SearchRequest-derefAliases ::= ENUMERATED { neverDerefAliases(0), derefInSearching(1),
 //! derefFindingBaseObj(2), derefAlways(3), ... }`
 use rasn::prelude::*;

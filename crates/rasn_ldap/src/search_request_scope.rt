@@ -1,3 +1,4 @@
+// Written by `soqavise generate` from the ASN.1 of LDAP: change that, and write it again.
 //! `SearchRequest-scope ::= ENUMERATED { baseObject(0), singleLevel(1), wholeSubtree(2), ... }`
 use rasn::prelude::*;
 

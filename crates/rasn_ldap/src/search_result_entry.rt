@@ -1,3 +1,4 @@
+// Written by `soqavise generate` from the ASN.1 of LDAP: change that, and write it again.
 //! `SearchResultEntry ::= [APPLICATION 4] IMPLICIT SEQUENCE`
 use crate::{LdapString, PartialAttributeList};
 use rasn::prelude::*;

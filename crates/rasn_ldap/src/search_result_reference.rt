@@ -1,3 +1,4 @@
+// Written by `soqavise generate` from the ASN.1 of LDAP: change that, and write it again.
 //! `SearchResultReference ::= [APPLICATION 19] IMPLICIT Referral`
 use crate::Referral;
 use rasn::prelude::*;

@@ -1,3 +1,4 @@
+// Written by `soqavise generate` from the ASN.1 of LDAP: change that, and write it again.
 //! `SubstringFilter ::= SEQUENCE`
 use crate::{LdapString, SubstringFilterSubstrings};
 use rasn::prelude::*;

@@ -1,3 +1,4 @@
+// Written by `soqavise generate` from the ASN.1 of LDAP: change that, and write it again.
 //! `SubstringFilter-substrings ::= SEQUENCE (SIZE (1..MAX)) OF Substring`
 use crate::Substring;
 use rasn::prelude::*;

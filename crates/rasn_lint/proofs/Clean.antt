@@ -26,7 +26,7 @@ use Rattle.rasn_lint.specs.declared.by_schema.LintError.TheVariants.{Refused, Re
 use Rattle.rasn_lint.specs.declared.by_schema.OpenTypes.{OpenTypes}
 use Rattle.rasn_lint.specs.declared.by_schema.OpenTypes.TheVariants.{Unexamined, Examined}
 use Rattle.rasn_lint.specs.declared.departure.Departure.{Departure}
-use Rattle.rasn_lint.specs.Lint.{IsDer, HasFormed, IsRemainderOf, IsAtFault, IsDerOrNot, IsClean, AreAll, offset_of, IsLint, IsNoLint, IsIllFormedAt, IsFirstOr, IsFirstDeparture, rest_after}
+use Rattle.rasn_lint.specs.Lint.{IsDer, HasFormed, IsRemainderOf, IsAtFault, IsClean, AreAll, offset_of, IsLint, IsNoLint, IsIllFormedAt, IsFirstOr, IsFirstDeparture, rest_after}
 use Rattle.rasn_lint.specs.Judged.{AreJudged, AreOpenDepartures}
 use Rattle.rasn_lint.specs.Refusals.{aspect_of}
 use Rattle.rasn_lint.proofs.Unread.{not_read as unread}
@@ -73,22 +73,22 @@ same_aspect d r s a = a ∙ ap (λ (z : Refusal). aspect_of z.error.kind) (sym s
 
 -- What is found of the parts of a message.
 module _ (opens : OpenTypes) (types : List «Type») (id : ℕ) (input : List ℕ) (parts : List Span) where
-  pub some_departures : (o : Option Refusal) (b : Bool) (ds : List Departure) → is_some o ≡ not b → IsDerOrNot types id input o → AreJudged b opens types (length input) [] [] parts ds → ds ≢ [] → AreAll opens types id input parts ds
-  some_departures None true ds e h j n = inl (h, j)
+  pub some_departures : (o : Option Departure) (b : Bool) (ds : List Departure) → is_some o ≡ not b → IsFirstDeparture Unexamined types id input o → AreJudged b opens types (length input) [] [] parts ds → ds ≢ [] → AreAll opens types id input parts ds
+  some_departures None true ds e h j n = inl (h.0, j)
   some_departures None false ds e h j n = cc
-  some_departures (Some r) true ds e h j n = cc
-  some_departures (Some r) false ds e h j n = inr (h.0, inl (j, n))
+  some_departures (Some d) true ds e h j n = cc
+  some_departures (Some d) false ds e h j n = inr (h.0, inl (j, n))
 
-  pub refusal_alone : (o : Option Refusal) (r : Refusal) (b : Bool) (none ds : List Departure) → o ≡ Some r → is_some o ≡ not b → IsDerOrNot types id input o → AreJudged b opens types (length input) [] [] parts none → none ≡ []
-      → ((d : Departure) × (ds ≡ none ++ d ∷ []) × (d.refusal ≡ r) × (d.inner ≡ None) × (d.aspect ≡ aspect_of r.error.kind)) → AreAll opens types id input parts ds
-  refusal_alone o r b none ds q e h j n (d, p, s, i, a) = go b (subst (λ z. is_some z ≡ not b) q e) j
+  pub refusal_alone : (o : Option Departure) (d : Departure) (b : Bool) (none ds : List Departure) → o ≡ Some d → is_some o ≡ not b → IsFirstDeparture Unexamined types id input o → AreJudged b opens types (length input) [] [] parts none → none ≡ []
+      → ds ≡ none ++ d ∷ [] → AreAll opens types id input parts ds
+  refusal_alone o d b none ds q e h j n p = go b (subst (λ z. is_some z ≡ not b) q e) j
     where
-      go : (b : Bool) → is_some (Some r) ≡ not b → AreJudged b opens types (length input) [] [] parts none → AreAll opens types id input parts ds
+      go : (b : Bool) → is_some (Some d) ≡ not b → AreJudged b opens types (length input) [] [] parts none → AreAll opens types id input parts ds
       go true e j = cc
       go false e j =
-          let k = subst (IsDerOrNot types id input) q h in
+          let k = subst (IsFirstDeparture Unexamined types id input) q h in
           let g = subst (λ z. AreJudged false opens types (length input) [] [] parts z) n j in
-          inr (k.0, inr (g, d, p ∙ ap (λ z. z ++ d ∷ []) n, (subst (IsAtFault types id input) (sym s) k.1, i, same_aspect d r s a)))
+          inr (k.0, inr (g, d, p ∙ ap (λ z. z ++ d ∷ []) n, k.1))
 
 -- What is looked into, part by part.
 module _ (types : List «Type») (len : ℕ) (parts : List Span) where

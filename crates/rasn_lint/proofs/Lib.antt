@@ -17,6 +17,7 @@ pub mod Opened
 pub mod Wholes
 pub mod Shown
 pub mod Listed
+pub mod LocalTimes
 pub mod Clean
 pub mod Holding
 pub mod Kept
@@ -26,3 +27,4 @@ pub mod WorkedList
 pub mod WorkedMessages
 pub mod WorkedReplies
 pub mod WorkedSets
+pub mod WorkedTimes

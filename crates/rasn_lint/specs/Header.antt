@@ -14,7 +14,7 @@ use Rattle.rasn_de.specs.Headers.{bit_at, Header}
 use Rattle.rasn_de.specs.Constructed.{sequence_header, constructed_header_at}
 use Rattle.rasn_de.specs.Steps.{PeeksTag}
 use Rattle.rasn_schema.specs.declared.types.LeafKind.{LeafKind}
-use Rattle.rasn_schema.specs.declared.types.LeafKind.TheVariants.{Boolean, Null, ObjectIdentifier, BitString, NamedBits, OctetString, FixedOctetString, Integer, Signed32, Signed64, Unsigned32, Unsigned64, Numeric, Printable, Visible, Ia5, AnyOctets, Bmp, Utf8, UtcTime, GeneralizedTime, Date}
+use Rattle.rasn_schema.specs.declared.types.LeafKind.TheVariants.{Boolean, Null, ObjectIdentifier, BitString, NamedBits, OctetString, FixedOctetString, Integer, Signed32, Signed64, Unsigned32, Unsigned64, Numeric, Printable, Visible, Ia5, AnyOctets, Bmp, Utf8, UtcTime, GeneralizedTime, Date, Universal, RelativeOid, Real, Time, Duration, TimeOfDay, DateTime}
 use Rattle.rasn_schema.specs.declared.types.«Type».{«Type»}
 use Rattle.rasn_schema.specs.declared.types.«Type».TheVariants.{Leaf, Enumerated, Any, Tagged, Choice, Sequence, Set, SequenceOf, SetOf, Unknown}
 use Rattle.rasn_lint.specs.Encoding.{start}
@@ -95,6 +95,13 @@ is_string Utf8 = true
 is_string UtcTime = true
 is_string GeneralizedTime = true
 is_string Date = true
+is_string Universal = true
+is_string RelativeOid = false
+is_string Real = false
+is_string Time = false
+is_string Duration = false
+is_string TimeOfDay = false
+is_string DateTime = false
 
 -- There is an error exactly if the constructed bit isn't the wanted one.
 abbrev pub IsBitFault : DerDecodeErrorKind → Bool → Bool → Option DecodeError → Type 0

@@ -10,6 +10,7 @@ pub mod Header
 pub mod Leaf
 pub mod Refusals
 pub mod Untyped
+pub mod LocalTimes
 pub mod Open
 pub mod Listed
 pub mod Judged
@@ -20,3 +21,4 @@ pub mod Worked
 pub mod WorkedMessages
 pub mod WorkedReplies
 pub mod WorkedSets
+pub mod WorkedTimes

@@ -55,10 +55,6 @@ pub record IsRemainderOf (input rest : List ℕ) (r : Refusal) : Type 0 where
 abbrev pub IsAtFault : List «Type» → ℕ → List ℕ → Refusal → Type 0
 IsAtFault types id input r = IsLocated types Der id input r ⊎ ((t : Tree) × (rest : List ℕ) × Reads Der (shape_of types id) 128 (top Der) input t rest × IsRemainderOf input rest r)
 
--- DER reads the message; or it doesn't, and this is where and why.
-abbrev pub IsDerOrNot : List «Type» → ℕ → List ℕ → Option Refusal → Type 0
-IsDerOrNot types id input found = MatchOption found (IsDer types id input) (λ r. (IsDer types id input → ⊥) × IsAtFault types id input r)
-
 -- The departure is that refusal, of what its error is about.
 abbrev pub IsRefusal : List «Type» → ℕ → List ℕ → Departure → Type 0
 IsRefusal types id input d = IsAtFault types id input d.refusal × (d.inner ≡ None) × (d.aspect ≡ aspect_of d.refusal.error.kind)

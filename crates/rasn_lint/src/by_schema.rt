@@ -1,11 +1,12 @@
 //! Every departure of a message from DER, by its type.
 ghost use Rattle.std.specs.Prelude.{◌≡◌, ◌++◌, ◌∷◌, [], Some, None, IfOk, IfErr, OnOk, List, MatchOption};
 ghost use Rattle.std.specs.List.Sorted.{IsNonDecreasingBy, IsPermutation};
+ghost use Rattle.rasn_lint.specs.declared.by_schema.OpenTypes.TheVariants.{Unexamined};
 ghost use Rattle.rasn_lint.specs.declared.departure.Departure.{Departure};
 ghost use Rattle.rasn_lint.specs.Judged.{TypedUnless, OpenIf, AreOfPart, AreJudged};
 ghost use Rattle.rasn_lint.specs.Listed.{HasAllIf};
 ghost use Rattle.rasn_lint.specs.Refusals.{aspect_of};
-ghost use Rattle.rasn_lint.specs.Lint.{IsDerOrNot, IsRemainderOf, AreAll, offset_of, IsLint, IsNoLint, rest_after};
+ghost use Rattle.rasn_lint.specs.Lint.{IsFirstDeparture, IsRemainderOf, AreAll, offset_of, IsLint, IsNoLint, rest_after};
 
 use crate::departure::{Departure, aspect_of};
 use crate::judge::{Way, faults_of, note_faults, site_at};
@@ -59,23 +60,23 @@ pub fn remainder_refusal(alloc: Global, id: TypeId, octets: &[u8], rest: &[u8]) 
 }
 
 /// Returns where and why DER doesn't read the octets as a value of the type, if it doesn't.
-pub fn der_refusal(
+pub fn der_departure(
     alloc: Global,
     schema: &Schema,
     id: TypeId,
     octets: &[u8],
-) -> Result<Option<Refusal>, AllocError>
-    ensures { IfOk result (IsDerOrNot schema.now.types.items id.0 octets.now) }
+) -> Result<Option<Departure>, AllocError>
+    ensures { IfOk result (IsFirstDeparture Unexamined schema.now.types.items id.0 octets.now) }
 {
     match check_or_locate(alloc, Codec::Der, schema, id, octets) {
-        Ok(rest) => {
-            let found = remainder_refusal(alloc, id, octets, rest);
-            Ok(found)
-        }
+        Ok(rest) => match remainder_refusal(alloc, id, octets, rest) {
+            Some(refusal) => Ok(Some(departure_of(refusal))),
+            None => Ok(None),
+        },
         Err(refusal) => if refusal.error.is_out_of_memory() {
             Err(AllocError)
         } else {
-            Ok(Some(refusal))
+            Ok(Some(departure_of(refusal)))
         },
     }
 }
@@ -92,14 +93,6 @@ pub fn departure_of(refusal: Refusal) -> Departure
         aspect,
         inner: None,
     }
-}
-
-/// Appends a refusal of the reader.
-fn push_refusal(list: &mut Vec<Departure>, refusal: Refusal) -> Result<(), AllocError>
-    ensures { OnOk result ((d : Departure) × (list.new.items ≡ list.old.items ++ d ∷ []) × (d.refusal ≡ refusal) × (d.inner ≡ None) × (d.aspect ≡ aspect_of refusal.error.kind)) }
-{
-    list.push(departure_of(refusal))?;
-    Ok(())
 }
 
 /// Appends the departures of a part by its type, unless DER reads the message. The trail leads to
@@ -206,16 +199,16 @@ fn judge_message(
 ) -> Result<Vec<Departure>, AllocError>
     ensures { IfOk result (λ list. AreAll opens schema.now.types.items id.0 octets.now parts.now list.items) }
 {
-    let refusal = der_refusal(alloc, schema, id, octets)?;
-    let is_read = refusal.is_none();
+    let departure = der_departure(alloc, schema, id, octets)?;
+    let is_read = departure.is_none();
     let mut list = judge_parts(alloc, schema, is_read, opens, octets.len(), parts)?;
     if !list.is_empty() {
         return Ok(list);
     }
-    let Some(refusal) = refusal else {
+    let Some(departure) = departure else {
         return Ok(list);
     };
-    push_refusal(&mut list, refusal)?;
+    list.push(departure)?;
     Ok(list)
 }
 

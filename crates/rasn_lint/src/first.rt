@@ -1,12 +1,12 @@
 //! The first departure of a message from DER.
 ghost use Rattle.std.specs.Prelude.{◌≡◌, ◌++◌, [], List, IfOk, OnOk, slice_get};
 ghost use Rattle.rasn_types.specs.Errors.{IsOutOfMemory};
-ghost use Rattle.rasn_lint.specs.declared.by_schema.OpenTypes.TheVariants.{Unexamined, Examined};
+ghost use Rattle.rasn_lint.specs.declared.by_schema.OpenTypes.TheVariants.{Examined};
 ghost use Rattle.rasn_lint.specs.declared.departure.Departure.{Departure};
 ghost use Rattle.rasn_lint.specs.Judged.{AreOpenDepartures};
 ghost use Rattle.rasn_lint.specs.Lint.{IsFirstOr, IsFirstDeparture, IsCheckOf};
 
-use crate::by_schema::{OpenTypes, departure_of, der_refusal, remainder_refusal, rest_after};
+use crate::by_schema::{OpenTypes, departure_of, der_departure, remainder_refusal, rest_after};
 use crate::departure::Departure;
 use crate::judge::Way;
 use crate::open::{Wanted, note_open};
@@ -67,23 +67,8 @@ fn first_inside(
     Ok(None)
 }
 
-/// Returns the refusal of the reader of DER as a departure, if it doesn't read the octets.
-fn first_typed(
-    alloc: Global,
-    schema: &Schema,
-    id: TypeId,
-    octets: &[u8],
-) -> Result<Option<Departure>, AllocError>
-    ensures { IfOk result (IsFirstDeparture Unexamined schema.now.types.items id.0 octets.now) }
-{
-    match der_refusal(alloc, schema, id, octets)? {
-        Some(refusal) => Ok(Some(departure_of(refusal))),
-        None => Ok(None),
-    }
-}
-
-/// Returns the same or, if DER reads the octets, the first departure inside an open type. All parts
-/// of the message are listed.
+/// Returns the first departure of a message whose open types are looked into, if there is one. All
+/// parts of the message are listed.
 fn first_listed(
     alloc: Global,
     schema: &Schema,
@@ -142,13 +127,13 @@ fn first_departure(
     ensures { IfOk result (IsFirstDeparture opens schema.now.types.items id.0 octets.now) }
 {
     match opens {
-        OpenTypes::Unexamined => first_typed(alloc, schema, id, octets),
+        OpenTypes::Unexamined => der_departure(alloc, schema, id, octets),
         OpenTypes::Examined => first_examined(alloc, schema, id, octets),
     }
 }
 
 /// Returns the departure that memory ran out.
-fn out_of_memory(alloc: Global, id: TypeId) -> Departure
+pub fn out_of_memory(alloc: Global, id: TypeId) -> Departure
     ensures { IsOutOfMemory result.refusal.error.kind }
 {
     departure_of(Refusal {

@@ -5,6 +5,7 @@ ghost use Rattle.rasn_types.specs.declared.error.decode.DerDecodeErrorKind.TheVa
 ghost use Rattle.rasn_lint.specs.Header.{has_own_header, IsTagFault, after_number, after_identifier, IsOfLength, IsLengthFaultAfter, IsLengthFault, is_constructed, is_string, IsBitFault, IsLeafFormFault, IsFormFault};
 
 use crate::der::encoding::decoder_of;
+use crate::leaf::{Segments, segments_in};
 use crate::place::der_error;
 use rasn_de::ber::de::ConstructedHeader;
 use rasn_schema::{LeafKind, Type};
@@ -75,14 +76,13 @@ fn after_identifier(octets: &[u8]) -> &[u8]
 fn is_of_length(error: &DecodeError) -> bool
     ensures { IsWhether result (IsOfLength error.now) }
 {
-    match &error.kind {
-        DecodeErrorKind::CodecSpecific { inner } => match inner {
-            CodecDecodeError::Der(DerDecodeErrorKind::NonMinimalLength) => true,
-            CodecDecodeError::Ber(BerDecodeErrorKind::IndefiniteLengthNotAllowed) => true,
-            _ => false,
-        },
-        _ => false,
-    }
+    matches!(
+        &error.kind,
+        DecodeErrorKind::CodecSpecific {
+            inner: CodecDecodeError::Der(DerDecodeErrorKind::NonMinimalLength)
+                | CodecDecodeError::Ber(BerDecodeErrorKind::IndefiniteLengthNotAllowed),
+        }
+    )
 }
 
 /// Returns the error of the length that follows an identifier with this tag, if DER reads it in
@@ -149,17 +149,7 @@ pub fn is_constructed(octets: &[u8]) -> bool
 pub fn is_string(kind: LeafKind) -> bool
     ensures { result ≡ is_string kind }
 {
-    match kind {
-        LeafKind::Boolean
-        | LeafKind::Null
-        | LeafKind::ObjectIdentifier
-        | LeafKind::Integer
-        | LeafKind::Signed32
-        | LeafKind::Signed64
-        | LeafKind::Unsigned32
-        | LeafKind::Unsigned64 => false,
-        _ => true,
-    }
+    !matches!(segments_in(kind), Segments::Whole)
 }
 
 /// Returns the error of a constructed bit that isn't the wanted one.

@@ -1,6 +1,6 @@
 //! Finds the departures of one part from DER.
 ghost use Rattle.std.specs.Prelude.{◌≡◌, ◌++◌, OnOk, IfOk, List};
-ghost use Rattle.rasn_lint.specs.Judged.{IsSiteAt, IsCopied, AreNoted, IsAnyRefusal, IsAnyFault, IsOpenFault, AreHeaderFaults, AreFaultsOf, AreListed};
+ghost use Rattle.rasn_lint.specs.Judged.{IsSiteAt, IsCopied, AreNoted, IsAnyRefusal, IsOpenFault, AreHeaderFaults, AreFaultsOf, AreListed};
 ghost use Rattle.rasn_lint.specs.Header.{has_own_header};
 ghost use Rattle.rasn_lint.specs.declared.departure.Departure.{Departure};
 
@@ -81,22 +81,12 @@ fn any_refusal(alloc: Global, octets: &[u8]) -> Option<DecodeError>
     }
 }
 
-/// Returns the same, unless open types are looked into: then it is found there.
-fn any_fault(alloc: Global, opens: OpenTypes, octets: &[u8]) -> Option<DecodeError>
-    ensures { IsAnyFault opens octets.now result }
-{
-    match opens {
-        OpenTypes::Unexamined => any_refusal(alloc, octets),
-        OpenTypes::Examined => None,
-    }
-}
-
-/// Returns the same if the type is open.
+/// Returns the same if the type is open, unless open types are looked into: then it is found there.
 fn open_fault(alloc: Global, opens: OpenTypes, ty: &Type, octets: &[u8]) -> Option<DecodeError>
     ensures { IsOpenFault opens ty.now octets.now result }
 {
-    match ty {
-        Type::Any { .. } => any_fault(alloc, opens, octets),
+    match (ty, opens) {
+        (Type::Any { .. }, OpenTypes::Unexamined) => any_refusal(alloc, octets),
         _ => None,
     }
 }

@@ -1,13 +1,15 @@
 //! Facts about lists of departures. The functions do nothing when they run.
 ghost use Rattle.rasn_lint.specs.Laws.{NormalIsClean, FormedIsClean, ClosedIsClean, FirstIsListed, ClosedFirstIsListed, CleanIsNormal};
-ghost use Rattle.std.specs.Prelude.{List, Vec};
+ghost use Rattle.std.specs.Prelude.{◌≡◌, List, Vec};
 ghost use Rattle.std.specs.Global.{Global};
 ghost use Rattle.rasn_schema.specs.declared.types.NamedNumber.{NamedNumber};
 ghost use Rattle.rasn_lint.specs.Worked.{WorkedDepartures};
 ghost use Rattle.rasn_lint.specs.WorkedMessages.{WorkedMessages};
 ghost use Rattle.rasn_lint.specs.WorkedReplies.{AreOfReply, WorkedReplies};
 ghost use Rattle.rasn_lint.specs.WorkedSets.{AreOfSet, WorkedSets};
+ghost use Rattle.rasn_lint.specs.WorkedTimes.{WorkedTimes};
 ghost use Rattle.rasn_schema.specs.declared.types.«Type».{«Type»};
+ghost use Rattle.rasn_dynamic.specs.declared.span.Span.{Span};
 
 /// Proves what the list of a message says of the value written anew, as `rasn_dynamic::normalise`
 /// does it: what is written has no departures if the open types of the message, or its own, are
@@ -48,4 +50,9 @@ pub fn worked_replies()
 /// that of a named one, and, where open types are looked into, a NULL with contents.
 pub fn worked_sets()
     ensures { (types : List «Type») → AreOfSet types → WorkedSets types }
+{}
+
+/// Proves that a GeneralizedTime without a zone is a local time, and that one with a zone isn't.
+pub fn worked_times()
+    ensures { (names : Vec NamedNumber Global) (e : Span) → e.id.0 ≡ 0 → WorkedTimes names e }
 {}

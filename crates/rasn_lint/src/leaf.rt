@@ -8,7 +8,7 @@ ghost use Rattle.rasn_types.specs.Shapes.{leaf, numbers, bits, Tree, octet_strin
 ghost use Rattle.rasn_types.specs.Trees.{unconstrained};
 ghost use Rattle.rasn_lint.specs.Leaf.{segments_of, segments_in, Finds, IsMended, IsMendedFault, IsContentsFault};
 
-use crate::header::{is_constructed, is_string};
+use crate::header::is_constructed;
 use crate::place::reader_of;
 use rasn_dynamic::check;
 use rasn_enc::ber::enc::{Encoder, EncoderOptions};
@@ -47,17 +47,38 @@ fn write_bits(alloc: Global, tag: Tag, value: &BitStr<'_>) -> Result<Vec<u8>, En
 }
 
 /// Returns how the contents of a constructed value are encoded.
-fn segments_in(kind: LeafKind) -> Segments
+pub fn segments_in(kind: LeafKind) -> Segments
     ensures { result ≡ segments_in kind }
 {
     match kind {
-        LeafKind::BitString => Segments::OfBits,
-        LeafKind::NamedBits => Segments::OfBits,
-        _ => if is_string(kind) {
-            Segments::OfOctets
-        } else {
-            Segments::Whole
-        },
+        LeafKind::BitString | LeafKind::NamedBits => Segments::OfBits,
+        LeafKind::OctetString
+        | LeafKind::FixedOctetString(_)
+        | LeafKind::Numeric
+        | LeafKind::Printable
+        | LeafKind::Visible
+        | LeafKind::Ia5
+        | LeafKind::AnyOctets
+        | LeafKind::Bmp
+        | LeafKind::Utf8
+        | LeafKind::UtcTime
+        | LeafKind::GeneralizedTime
+        | LeafKind::Date
+        | LeafKind::Universal => Segments::OfOctets,
+        LeafKind::Boolean
+        | LeafKind::Null
+        | LeafKind::ObjectIdentifier
+        | LeafKind::Integer
+        | LeafKind::Signed32
+        | LeafKind::Signed64
+        | LeafKind::Unsigned32
+        | LeafKind::Unsigned64
+        | LeafKind::RelativeOid
+        | LeafKind::Real
+        | LeafKind::Time
+        | LeafKind::Duration
+        | LeafKind::TimeOfDay
+        | LeafKind::DateTime => Segments::Whole,
     }
 }
 

@@ -1,3 +1,5 @@
+// Written by `soqavise generate` from the ASN.1 of Certificates, Revocation, Requests,
+// CertificateExtensions: change that, and write it again.
 //! `KeyPurposeId ::= OBJECT IDENTIFIER`
 use rasn::prelude::*;
 

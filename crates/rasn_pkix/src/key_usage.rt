@@ -1,3 +1,5 @@
+// Written by `soqavise generate` from the ASN.1 of Certificates, Revocation, Requests,
+// CertificateExtensions: change that, and write it again.
 //! `KeyUsage ::= BIT STRING { digitalSignature(0), nonRepudiation(1), keyEncipherment(2),
 //! dataEncipherment(3), keyAgreement(4), keyCertSign(5), cRLSign(6), encipherOnly(7),
 //! decipherOnly(8) }`

@@ -1,4 +1,6 @@
-//! Types of an ASN.1 module.
+// Written by `soqavise generate` from the ASN.1 of Certificates, Revocation, Requests,
+// CertificateExtensions: change that, and write it again.
+//! Types of the ASN.1 of Certificates, Revocation, Requests, CertificateExtensions.
 #![tactic(auto)]
 
 mod algorithm_identifier;

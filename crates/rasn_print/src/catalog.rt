@@ -239,19 +239,9 @@ fn known_of<'text>(
     ensures { IfOk result (λ known. known.candidates ≡ candidates) }
 {
     let shown = contents_for(call.work, candidates);
-    let mut all = Vec::from_slice(alloc, wanted.as_slice())?;
-    for name in shown {
-        if let Some(of) = read.built_in(CONTENTS, name) {
-            all.push(of)?;
-        }
-    }
+    let all = with_contents(alloc, read, wanted.as_slice(), shown)?;
     let library = read.library(alloc, all.as_slice())?;
-    let mut types = Vec::new(alloc);
-    for of in &wanted {
-        if let Some(root) = root_of(&library, *of) {
-            types.push(KnownType::new(alloc, &library.schema, root)?)?;
-        }
-    }
+    let types = known_types(alloc, &library, wanted.as_slice())?;
     if candidates == Candidates::Named && types.is_empty() {
         return Err(no_schema(alloc, &library));
     }
@@ -271,6 +261,37 @@ fn known_of<'text>(
         identifiers: identifiers_for(alloc, read, shown)?,
         is_cut: call.work == Work::Show && !call.is_full,
     })
+}
+
+/// Returns these types, and those of the module of what is in open types that have these names.
+fn with_contents<'text>(
+    alloc: Global,
+    read: &Modules<'text>,
+    wanted: &[TypeRef<'text>],
+    names: &[&str],
+) -> Result<Vec<TypeRef<'text>>, AllocError> {
+    let mut all = Vec::from_slice(alloc, wanted)?;
+    for name in names {
+        if let Some(of) = read.built_in(CONTENTS, name) {
+            all.push(of)?;
+        }
+    }
+    Ok(all)
+}
+
+/// Returns those of these types that the library has.
+fn known_types<'text>(
+    alloc: Global,
+    library: &Library<'text>,
+    wanted: &[TypeRef<'text>],
+) -> Result<Vec<KnownType<'text>>, AllocError> {
+    let mut types = Vec::new(alloc);
+    for of in wanted {
+        if let Some(root) = root_of(library, *of) {
+            types.push(KnownType::new(alloc, &library.schema, root)?)?;
+        }
+    }
+    Ok(types)
 }
 
 /// Returns the names of the identifiers of modules that aren't built in, the first of each, for work

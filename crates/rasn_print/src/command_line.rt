@@ -65,6 +65,8 @@ pub struct Call {
     pub input: Option<InputForm>,
     /// Whether open types are looked into.
     pub open_types: OpenTypes,
+    /// Says whether `normalise` counts a local time as one of UTC.
+    pub is_local_utc: bool,
     /// Whether `show` prints where each part begins.
     pub has_offsets: bool,
     /// Whether `show` prints all of long octets.
@@ -239,7 +241,14 @@ fn encode_command<'a>(alloc: Global) -> Result<Command<'a>, AllocError> {
 fn normalise_command<'a>(alloc: Global) -> Result<Command<'a>, AllocError> {
     messages(alloc, "normalise", "Writes messages of BER or CER as DER")?
         .after_help("Example: soqavise normalise --type LDAPMessage message.ber")
-        .arg(rules(alloc, READ))
+        .arg(rules(alloc, READ))?
+        .arg(
+            Arg::new(alloc, "local")
+                .long("local")
+                .value_name("ZONE")
+                .value_parser(ValueParser::from(["utc"].as_slice()))
+                .help("What a time without a zone counts as (without it, the message is refused)"),
+        )
 }
 
 fn types_command<'a>(alloc: Global) -> Result<Command<'a>, AllocError> {
@@ -438,6 +447,7 @@ pub fn call_of(alloc: Global, matches: &ArgMatches<'_>) -> Result<Option<Call>, 
         rule: rule_of(inner.get_str("rules")),
         input: form_of(inner.get_str("input")),
         open_types: open_types_of(inner.get_flag("outer")),
+        is_local_utc: inner.get_str("local") == Some("utc"),
         has_offsets: inner.get_flag("offsets"),
         is_full: inner.get_flag("full"),
         has_lines: inner.get_flag("lines"),

@@ -1,5 +1,6 @@
 //! Numbers of JSON, of which many programs round those that a double can't hold (RFC 8259 6).
 
+use json::{Reader, Scratch, Token, Writer};
 use std::alloc::{AllocError, Global};
 
 /// A double has each whole number up to this one (IEEE 754).
@@ -10,71 +11,28 @@ pub(crate) fn is_exact(number: i64) -> bool {
     (-GREATEST..=GREATEST).contains(&number)
 }
 
-/// Returns JSON in which whole numbers that a double can't hold are strings of their digits.
+/// Returns JSON, without a space between its tokens, in which whole numbers that a double can't hold
+/// are strings of their digits.
 ///
 /// # Errors
 /// `AllocError` if memory runs out.
 pub(crate) fn exact_numbers(alloc: Global, json: &str) -> Result<String, AllocError> {
-    let mut copied = Copied {
-        json: String::with_capacity(alloc, json.len())?,
-        number: String::new(alloc),
-        within: Within::Value,
-    };
-    for letter in json.chars() {
-        copied.push(letter)?;
-    }
-    copied.end_number()?;
-    Ok(copied.json)
-}
-
-/// What a character of JSON is in.
-#[derive(Clone, Copy)]
-enum Within {
-    /// A value that isn't a string.
-    Value,
-    Text,
-    /// A string, after a backslash in it.
-    Escape,
-}
-
-/// JSON that is copied.
-#[derive(Drop)]
-struct Copied {
-    json: String,
-    /// The number that the last characters are, which aren't copied yet.
-    number: String,
-    within: Within,
-}
-
-impl Copied {
-    /// Copies a character.
-    fn push(&mut self, letter: char) -> Result<(), AllocError> {
-        let is_in_number = !self.number.is_empty();
-        self.within = match (self.within, letter) {
-            (Within::Value, '-' | '0'..='9') => return self.number.push(letter),
-            (Within::Value, '+' | '.' | 'E' | 'e') if is_in_number => {
-                return self.number.push(letter);
-            }
-            (Within::Value, '"') | (Within::Escape, _) => Within::Text,
-            (Within::Text, '\\') => Within::Escape,
-            (Within::Text, '"') => Within::Value,
-            (within, _) => within,
-        };
-        self.end_number()?;
-        self.json.push(letter)
-    }
-
-    /// Copies a number, if one is before a character.
-    fn end_number(&mut self) -> Result<(), AllocError> {
-        let number = self.number.as_str();
-        let is_whole = !number.contains(['.', 'E', 'e']);
-        let is_kept = !is_whole || matches!(number.parse::<i64>(), Ok(small) if is_exact(small));
-        if number.is_empty() || is_kept {
-            self.json.push_str(number)?;
-        } else {
-            write!(self.json, "\"{number}\"")?;
+    let mut scratch = Scratch::new(alloc);
+    let mut reader = Reader::new(json, &mut scratch)?;
+    let mut out = Writer::new(Vec::new(alloc));
+    // Each token has an octet of its own.
+    for _ in 0..json.len() {
+        match reader.next() {
+            Some(Token::Bad) | None => break,
+            Some(Token::Number(number)) if is_rounded(number) => out.string(number)?,
+            Some(token) => out.token(token)?,
         }
-        self.number.clear();
-        Ok(())
     }
+    Ok(String::from_utf8(out.into_inner()).unwrap_or(String::new(alloc)))
+}
+
+/// Returns whether a number is a whole one that a double can't hold.
+fn is_rounded(number: &str) -> bool {
+    let is_whole = !number.contains(['.', 'E', 'e'].as_slice());
+    is_whole && !matches!(number.parse::<i64>(), Ok(small) if is_exact(small))
 }

@@ -4,7 +4,8 @@ ghost use Rattle.rasn_types.specs.Shapes.{number, numbers};
 ghost use Rattle.rasn_schema.specs.Trees.{tree_of};
 
 use rasn_schema::{
-    Alternative, Component, LeafKind, NamedNumber, Presence, Schema, Type, TypeId, Value, type_at,
+    Alternative, Component, LeafKind, NamedNumber, Presence, RelativeOid, Schema, Type, TypeId,
+    Value, type_at,
 };
 use rasn_types::ber::time::parse_generalized_time;
 use rasn_types::types::{
@@ -102,18 +103,15 @@ fn made_by(maker: &mut Maker<'_>, levels: usize, ty: &Type) -> Made {
             element,
             constraints,
             ..
-        } => match elements(maker, levels, *element, constraints)? {
-            Some(values) => Ok(Some(Value::Items(values))),
-            None => Ok(None),
-        },
+        } => Ok(elements(maker, levels, *element, constraints)?.map(|values| Value::Items(values))),
         Type::SetOf {
             element,
             constraints,
             ..
-        } => match elements(maker, levels, *element, constraints)? {
-            Some(values) => Ok(Some(Value::Elements(values))),
-            None => Ok(None),
-        },
+        } => {
+            let values = elements(maker, levels, *element, constraints)?;
+            Ok(values.map(|values| Value::Elements(values)))
+        }
         Type::Unknown => Ok(Some(Value::Items(Vec::new(maker.alloc)))),
     }
 }
@@ -224,13 +222,22 @@ fn leaf(alloc: Global, kind: LeafKind, constraints: &Constraints, names: &[Named
         LeafKind::Printable | LeafKind::Visible | LeafKind::Ia5 | LeafKind::AnyOctets => {
             octets(alloc, b'A', text)
         }
-        LeafKind::Utf8 => characters(alloc, text),
+        LeafKind::Utf8 | LeafKind::Universal => characters(alloc, text),
         LeafKind::Bmp => units(alloc, text),
         LeafKind::UtcTime | LeafKind::GeneralizedTime => {
             let time = parse_generalized_time(b"20000101000000Z");
             Ok(time.map(|time| Value::Instant(time)))
         }
         LeafKind::Date => Ok(Date::new(2000, 1, 1).map(|day| Value::Day(day))),
+        LeafKind::RelativeOid => {
+            let arcs = RelativeOid::parse(alloc, "1.2")?;
+            Ok(arcs.map(|arcs| Value::Arcs(arcs)))
+        }
+        LeafKind::Real => octets(alloc, 0, 0),
+        LeafKind::Time => copied(alloc, b"2000-01-01"),
+        LeafKind::Duration => copied(alloc, b"P1D"),
+        LeafKind::TimeOfDay => octets(alloc, b'0', 6),
+        LeafKind::DateTime => copied(alloc, b"20000101000000"),
     }
 }
 
@@ -276,6 +283,12 @@ fn octets(alloc: Global, octet: u8, count: usize) -> Made
     Ok(Some(Value::Octets(CowSlice::Owned(octets))))
 }
 
+/// Returns these octets.
+fn copied(alloc: Global, octets: &[u8]) -> Made {
+    let octets = Vec::from_slice(alloc, octets)?;
+    Ok(Some(Value::Octets(CowSlice::Owned(octets))))
+}
+
 /// Returns so many bits.
 fn bits(alloc: Global, count: usize) -> Made {
     let octets = vec![in alloc; 0u8; count.div_ceil(8)]?;
@@ -285,8 +298,7 @@ fn bits(alloc: Global, count: usize) -> Made {
 /// Returns the encoding of NULL, also with a tag that has one octet in place of its own.
 fn encoding(alloc: Global, tag: Tag) -> Made {
     if tag == Tag::EOC {
-        let octets = vec![in alloc; 5u8, 0]?;
-        return Ok(Some(Value::Octets(CowSlice::Owned(octets))));
+        return copied(alloc, &[5, 0]);
     }
     let class = match tag.class {
         Class::Universal => 0u8,
@@ -295,10 +307,7 @@ fn encoding(alloc: Global, tag: Tag) -> Made {
         Class::Private => 0xC0,
     };
     match u8::try_from(tag.value) {
-        Ok(value) if value < 31 => {
-            let octets = vec![in alloc; class | value, 0]?;
-            Ok(Some(Value::Octets(CowSlice::Owned(octets))))
-        }
+        Ok(value) if value < 31 => copied(alloc, &[class | value, 0]),
         Ok(_) | Err(_) => Ok(None),
     }
 }

@@ -1,8 +1,12 @@
 //! Values that hold no other values, as text.
+ghost use Rattle.std.specs.Prelude.{List, ℕ};
+ghost use Rattle.rasn_schema.specs.Reals.{IsShownAs};
 
 use crate::identifiers::identifier_text;
 use crate::known::Known;
-use rasn_schema::{LeafKind, NamedNumber, Type, Value, name_of_number};
+use rasn_schema::{
+    LeafKind, NamedNumber, Real, RelativeOid, TimeDigits, Type, Value, name_of_number,
+};
 use rasn_types::types::{BitStr, BmpString, Hexadecimal, Integer};
 use std::alloc::{AllocError, Global};
 use std::str;
@@ -31,18 +35,62 @@ pub(crate) fn leaf_text(
             named_bits_text(alloc, names_of(ty), &bits.as_bitstr())
         }
         Value::Bits(bits) => bits_text(alloc, &bits.as_bitstr(), is_cut),
-        Value::Octets(octets) => octets_text(alloc, octets.as_slice(), is_cut),
+        Value::Octets(octets) => match meaning_text(alloc, ty, octets.as_slice())? {
+            Some(text) => Ok(text),
+            None => octets_text(alloc, octets.as_slice(), is_cut),
+        },
         Value::Text(text) => octets_text(alloc, text.as_str().as_bytes(), is_cut),
         Value::Units(units) => match characters_of(alloc, units)? {
             Some(text) => octets_text(alloc, text.as_bytes(), is_cut),
             None => digits_text(alloc, units.as_octets(), is_cut),
         },
+        Value::Arcs(held) if kind_of(ty) == Some(LeafKind::RelativeOid) => {
+            RelativeOid { held }.to_string(alloc)
+        }
         Value::Arcs(identifier) => identifier_text(alloc, known, identifier),
         Value::Instant(time) => time.to_string(alloc),
         Value::Day(date) => date.to_string(alloc),
         Value::Items(_) | Value::Elements(_) | Value::Chosen(_, _) | Value::Absent => {
             Ok(String::new(alloc))
         }
+    }
+}
+
+/// Returns the kind of a type whose values hold no others.
+fn kind_of(ty: Option<&Type>) -> Option<LeafKind> {
+    match ty {
+        Some(Type::Leaf { kind, .. }) => Some(*kind),
+        _ => None,
+    }
+}
+
+/// Returns what octets mean in a REAL, a TIME-OF-DAY or a DATE-TIME, as text. Returns `None` of other
+/// types.
+pub(crate) fn meaning_text(
+    alloc: Global,
+    ty: Option<&Type>,
+    octets: &[u8],
+) -> Result<Option<String>, AllocError> {
+    match meaning_of(ty) {
+        Meaning::Real => match Real::of_contents(octets) {
+            Some(real) => Ok(Some(real_text(alloc, real)?)),
+            None => Ok(None),
+        },
+        Meaning::TimeDigits => { Ok(Some(TimeDigits { digits: octets }.to_string(alloc)?)) }
+        Meaning::Characters | Meaning::Other => Ok(None),
+    }
+}
+
+/// Returns a REAL with base 2 as the `f64` that is equal to it, and any other value, also of one to
+/// which none is, in value notation (X.680 21.6).
+fn real_text(alloc: Global, real: Real<'_>) -> Result<String, AllocError>
+    requires { (octets : List ℕ) × IsShownAs octets real }
+{
+    match (real, real.to_f64()) {
+        (Real::Binary { .. }, Some(number)) if number.is_finite() => {
+            String::from_str(alloc, ryu::Buffer::new().format_finite(number))
+        }
+        _ => real.to_string(alloc),
     }
 }
 
@@ -56,7 +104,9 @@ pub(crate) fn string_text(
     match value {
         Value::Text(text) => Ok(Some(String::from_str(alloc, text.as_str())?)),
         Value::Units(units) => characters_of(alloc, units),
-        Value::Octets(octets) if is_string(ty) => match str::from_utf8(octets.as_slice()) {
+        Value::Octets(octets) if meaning_of(ty) == Meaning::Characters => match str::from_utf8(
+            octets.as_slice(),
+        ) {
             Ok(text) => Ok(Some(String::from_str(alloc, text)?)),
             Err(_) => Ok(None),
         },
@@ -75,10 +125,19 @@ pub(crate) fn string_text(
     }
 }
 
-/// Returns whether a type is one of character strings.
-fn is_string(ty: Option<&Type>) -> bool {
-    let Some(Type::Leaf { kind, .. }) = ty else {
-        return false;
+/// The meaning that the contents octets of a leaf have as text.
+#[derive(Clone, Copy, Debug, PartialEq, Eq)]
+enum Meaning {
+    Characters,
+    Real,
+    TimeDigits,
+    Other,
+}
+
+/// Returns what octets of a type mean.
+fn meaning_of(ty: Option<&Type>) -> Meaning {
+    let Some(kind) = kind_of(ty) else {
+        return Meaning::Other;
     };
     match kind {
         LeafKind::Utf8
@@ -87,7 +146,12 @@ fn is_string(ty: Option<&Type>) -> bool {
         | LeafKind::Printable
         | LeafKind::Visible
         | LeafKind::Ia5
-        | LeafKind::AnyOctets => true,
+        | LeafKind::AnyOctets
+        | LeafKind::Universal
+        | LeafKind::Time
+        | LeafKind::Duration => Meaning::Characters,
+        LeafKind::Real => Meaning::Real,
+        LeafKind::TimeOfDay | LeafKind::DateTime => Meaning::TimeDigits,
         LeafKind::Boolean
         | LeafKind::Null
         | LeafKind::Integer
@@ -102,13 +166,14 @@ fn is_string(ty: Option<&Type>) -> bool {
         | LeafKind::FixedOctetString(_)
         | LeafKind::UtcTime
         | LeafKind::GeneralizedTime
-        | LeafKind::Date => false,
+        | LeafKind::Date
+        | LeafKind::RelativeOid => Meaning::Other,
     }
 }
 
 /// Returns whether a type is a BIT STRING whose bits have names.
 pub(crate) fn is_named_bits(ty: Option<&Type>) -> bool {
-    matches!(ty, Some(Type::Leaf { kind, .. }) if *kind == LeafKind::NamedBits)
+    kind_of(ty) == Some(LeafKind::NamedBits)
 }
 
 /// Returns the names of the numbers of a type, or of its bits.
@@ -261,10 +326,7 @@ fn quoted(alloc: Global, text: &str) -> Result<String, AllocError> {
 }
 
 /// Returns the characters of a BMPString; `None` if a unit isn't a character.
-pub(crate) fn characters_of(
-    alloc: Global,
-    units: &BmpString,
-) -> Result<Option<String>, AllocError> {
+fn characters_of(alloc: Global, units: &BmpString) -> Result<Option<String>, AllocError> {
     let mut text = String::new(alloc);
     for unit in units.units() {
         let Some(character) = char::from_u32(u32::from(unit)) else {

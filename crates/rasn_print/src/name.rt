@@ -2,7 +2,7 @@
 
 use crate::identifiers::attribute_name;
 use crate::known::Known;
-use crate::leaf::characters_of;
+use crate::leaf::string_text;
 use rasn_schema::Value;
 use rasn_text::push_escaped;
 use rasn_types::types::{Hexadecimal, ObjectIdentifier};
@@ -88,15 +88,16 @@ fn push_attribute(
 }
 
 /// Returns the characters of an encoding of a string type whose characters are known: UTF8String,
-/// NumericString, PrintableString, TeletexString, IA5String, VisibleString or BMPString. Returns
-/// `None` for other encodings, of a string with control characters that aren't ASCII, and of a
-/// TeletexString that isn't ASCII, since few programs use the other octets as T.61 defines them.
+/// NumericString, PrintableString, TeletexString, IA5String, VisibleString, UniversalString or
+/// BMPString. Returns `None` for other encodings, of a string with control characters that aren't
+/// ASCII, and of a TeletexString that isn't ASCII, since few programs use the other octets as T.61
+/// defines them.
 fn string_of(
     alloc: Global,
     known: &Known<'_>,
     octets: &[u8],
 ) -> Result<Option<String>, AllocError> {
-    let Some(0x0C | 0x12 | 0x13 | 0x14 | 0x16 | 0x1A | 0x1E) = octets.first() else {
+    let Some(0x0C | 0x12 | 0x13 | 0x14 | 0x16 | 0x1A | 0x1C | 0x1E) = octets.first() else {
         return Ok(None);
     };
     let found = known.universal_value(alloc, octets)?;
@@ -104,23 +105,10 @@ fn string_of(
         return Ok(None);
     };
     let text = match &**value {
-        Value::Text(text) => Some(String::from_str(alloc, text.as_str())?),
-        Value::Units(units) => characters_of(alloc, units)?,
-        Value::Octets(octets) => match str::from_utf8(octets.as_slice()) {
-            Ok(text) if text.is_ascii() => Some(String::from_str(alloc, text)?),
-            Ok(_) | Err(_) => None,
-        },
-        Value::Boolean(_)
-        | Value::Null
-        | Value::Integer(_)
-        | Value::Bits(_)
-        | Value::Arcs(_)
-        | Value::Instant(_)
-        | Value::Day(_)
-        | Value::Items(_)
-        | Value::Elements(_)
-        | Value::Chosen(_, _)
-        | Value::Absent => None,
+        Value::Octets(octets) if octets.as_slice().is_ascii() => {
+            Some(String::from_str(alloc, str::from_utf8(octets.as_slice()).unwrap_or(""))?)
+        }
+        value => string_text(alloc, None, value)?,
     };
     Ok(text.filter(|text| !text.chars().any(|it| matches!(it, '\u{80}'..='\u{9F}'))))
 }

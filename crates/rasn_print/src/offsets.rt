@@ -37,7 +37,7 @@ pub fn offsets_text(
 }
 
 /// Returns what follows the message that octets begin with, which has these parts.
-fn rest_of<'input>(parts: &MessageParts<'_>, octets: &'input [u8]) -> &'input [u8]
+pub(crate) fn rest_of<'input>(parts: &MessageParts<'_>, octets: &'input [u8]) -> &'input [u8]
     ensures { result.now ≡ rest_after parts.now.list.items octets.now }
 {
     match parts.list.first() {

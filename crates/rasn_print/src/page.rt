@@ -1,22 +1,19 @@
 //! Messages as a page of HTML: their parts with their places, of which a script makes a tree beside
 //! the octets.
 
-mod list;
+pub(crate) mod list;
 
 use crate::dump::tag_text;
-use crate::known::Known;
 use crate::leaf::names_of;
 use crate::page_text::{POLICY, SCRIPT, STYLE};
 use crate::reason::Reason;
-use crate::types::MessageType;
+use crate::similar::part_names;
 use json::Writer;
-use list::{Listed, list_message};
-use rasn_dynamic::Refusal;
-use rasn_schema::{NamedNumber, Type, part_name};
+use list::Listed;
+use rasn_schema::{NamedNumber, Type};
 use rasn_text::{Escaping, visible};
 use rasn_types::types::Hexadecimal;
 use std::alloc::{AllocError, Global};
-use std::slice;
 
 /// Whether there was memory for what is written.
 type Put = Result<(), AllocError>;
@@ -47,58 +44,33 @@ pub(crate) fn page_block(alloc: Global, name: &str, data: &[u8]) -> Result<Vec<u
     Ok(block)
 }
 
-/// Returns the data of a message of this type, with what departs from DER, or why it is refused.
+/// Returns the data of octets for a page: of a message the name of its type and its parts, with what
+/// departs from DER, and of others why they are refused, as the only reason. These have no parts:
+/// the script shows their encodings as far as it finds any.
 ///
 /// # Errors
 /// `AllocError` if memory runs out.
 pub(crate) fn page_data(
     alloc: Global,
-    known: &Known<'_>,
-    wanted: &MessageType<'_>,
     octets: &[u8],
-    departures: &[Reason],
-) -> Result<Result<Vec<u8>, Refusal>, AllocError> {
-    let mut listed = Listed::new(alloc, known, wanted.rule)?;
-    if let Some(refusal) = list_message(&mut listed, wanted.root, octets)? {
-        return Ok(Err(refusal));
-    }
-    let mut out = Writer::new(Vec::new(alloc));
-    out.begin_object()?;
-    out.key("type")?;
-    out.string(wanted.name)?;
-    put_refused(&mut out, None)?;
-    put_octets(&mut out, alloc, octets)?;
-    put_listed(&mut out, alloc, &listed, departures)?;
-    out.end_object()?;
-    Ok(Ok(script_text(alloc, out.into_inner())?.into_bytes()))
-}
-
-/// Returns the data of octets that are refused, with why and where. They have no parts: the script
-/// shows their encodings as far as it finds any.
-///
-/// # Errors
-/// `AllocError` if memory runs out.
-pub(crate) fn refused_data(
-    alloc: Global,
-    octets: &[u8],
-    reason: &Reason,
+    name: &str,
+    listed: Option<&Listed<'_>>,
+    reasons: &[Reason],
 ) -> Result<Vec<u8>, AllocError> {
     let mut out = Writer::new(Vec::new(alloc));
     out.begin_object()?;
     out.key("type")?;
-    out.string("")?;
-    put_refused(&mut out, Some(&reason.to_line(alloc)?))?;
-    put_octets(&mut out, alloc, octets)?;
-    out.key("parts")?;
+    out.string(name)?;
+    out.key("refused")?;
     out.begin_array()?;
+    if let (None, Some(reason)) = (listed, reasons.first()) {
+        out.string(reason.to_line(alloc)?.as_str())?;
+    }
     out.end_array()?;
-    out.key("types")?;
-    out.begin_object()?;
-    out.end_object()?;
-    out.key("identifiers")?;
-    out.begin_object()?;
-    out.end_object()?;
-    put_faults(&mut out, &[], slice::from_ref(reason))?;
+    out.key("octets")?;
+    out.string(Hexadecimal::new(octets).to_string(alloc)?.as_str())?;
+    put_parts(&mut out, alloc, listed)?;
+    put_faults(&mut out, listed, reasons)?;
     out.end_object()?;
     Ok(script_text(alloc, out.into_inner())?.into_bytes())
 }
@@ -110,46 +82,34 @@ fn script_text(alloc: Global, json: Vec<u8>) -> Result<String, AllocError> {
     text.as_str().replace(alloc, "<", "\\u003c")
 }
 
-/// Writes why a message is refused, if it is.
-fn put_refused(out: &mut Writer, reason: Option<&String>) -> Put {
-    out.key("refused")?;
-    out.begin_array()?;
-    if let Some(reason) = reason {
-        out.string(reason.as_str())?;
-    }
-    out.end_array()
-}
-
-/// Writes octets in hexadecimal.
-fn put_octets(out: &mut Writer, alloc: Global, octets: &[u8]) -> Put {
-    out.key("octets")?;
-    out.string(Hexadecimal::new(octets).to_string(alloc)?.as_str())
-}
-
-/// Writes parts, with their types, the names of identifiers, and what is wrong at which octet.
-fn put_listed(out: &mut Writer, alloc: Global, listed: &Listed<'_>, reasons: &[Reason]) -> Put {
+/// Writes the parts of a message, with their types, and the names of identifiers.
+fn put_parts(out: &mut Writer, alloc: Global, listed: Option<&Listed<'_>>) -> Put {
     out.key("parts")?;
     out.begin_array()?;
-    for number in &listed.numbers {
+    for number in listed.map(|it| it.numbers.as_slice()).unwrap_or(&[]) {
         out.i64(*number)?;
     }
     out.end_array()?;
-    put_types(out, alloc, listed)?;
+    out.key("types")?;
+    out.begin_object()?;
+    if let Some(listed) = listed {
+        put_types(out, alloc, listed)?;
+    }
+    out.end_object()?;
     out.key("identifiers")?;
     out.begin_object()?;
-    for (arcs, name) in &listed.identifiers {
+    for (arcs, name) in listed.map(|it| it.identifiers.as_slice()).unwrap_or(&[]) {
         out.key(arcs.as_str())?;
         out.string(name)?;
     }
-    out.end_object()?;
-    put_faults(out, listed.faults.as_slice(), reasons)
+    out.end_object()
 }
 
 /// Writes what is wrong at which octet.
-fn put_faults(out: &mut Writer, faults: &[(usize, String)], reasons: &[Reason]) -> Put {
+fn put_faults(out: &mut Writer, listed: Option<&Listed<'_>>, reasons: &[Reason]) -> Put {
     out.key("faults")?;
     out.begin_array()?;
-    for (offset, text) in faults {
+    for (offset, text) in listed.map(|it| it.faults.as_slice()).unwrap_or(&[]) {
         put_fault(out, *offset, text.as_str())?;
     }
     for reason in reasons {
@@ -170,8 +130,6 @@ fn put_fault(out: &mut Writer, offset: usize, text: &str) -> Put {
 
 /// Writes the types that parts are of, by their numbers.
 fn put_types(out: &mut Writer, alloc: Global, listed: &Listed<'_>) -> Put {
-    out.key("types")?;
-    out.begin_object()?;
     let types = listed.known.schema.types();
     for (index, (ty, is_used)) in types.iter().zip(listed.types.as_slice()).enumerate() {
         if *is_used {
@@ -179,7 +137,7 @@ fn put_types(out: &mut Writer, alloc: Global, listed: &Listed<'_>) -> Put {
             put_type(out, alloc, ty)?;
         }
     }
-    out.end_object()
+    Ok(())
 }
 
 /// Writes a type: what it is called, and the names of its parts or numbers.
@@ -189,7 +147,9 @@ fn put_type(out: &mut Writer, alloc: Global, ty: &Type) -> Put {
     out.string(kind_text(alloc, ty)?.as_str())?;
     match ty {
         Type::Leaf { .. } | Type::Enumerated { .. } => put_names(out, alloc, names_of(Some(ty)))?,
-        Type::Sequence { .. } | Type::Set { .. } | Type::Choice { .. } => put_parts(out, ty)?,
+        Type::Sequence { .. } | Type::Set { .. } | Type::Choice { .. } => {
+            put_part_names(out, alloc, ty)?;
+        }
         Type::Tagged { .. } => {
             out.key("parts")?;
             out.begin_array()?;
@@ -216,13 +176,10 @@ fn put_names(out: &mut Writer, alloc: Global, names: &[NamedNumber]) -> Put {
 }
 
 /// Writes the names of components or alternatives.
-fn put_parts(out: &mut Writer, ty: &Type) -> Put {
+fn put_part_names(out: &mut Writer, alloc: Global, ty: &Type) -> Put {
     out.key("parts")?;
     out.begin_array()?;
-    for index in 0..usize::MAX {
-        let Some(name) = part_name(ty, index) else {
-            break;
-        };
+    for name in part_names(alloc, ty)? {
         out.string(name)?;
     }
     out.end_array()

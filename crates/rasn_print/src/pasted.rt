@@ -3,7 +3,6 @@
 
 use base64::DecodeAllocError;
 use base64::engine::general_purpose::STANDARD;
-use hex::FromHexError;
 use std::alloc::{AllocError, Global};
 
 /// The number of octets after which a line of a dump may have two blanks in place of one.
@@ -20,11 +19,6 @@ pub(crate) enum Digits {
     Other,
 }
 
-/// Returns whether a text is hexadecimal digits and white space.
-fn is_hexadecimal(text: &[u8]) -> bool {
-    text.iter().all(|octet| octet.is_ascii_hexdigit() || octet.is_ascii_whitespace())
-}
-
 /// Returns the octets that a text denotes in hexadecimal digits, if it is one of
 ///
 /// - a dump, as `xxd`, `hexdump -C`, `od -t x1`, tcpdump and Wireshark print it;
@@ -35,28 +29,34 @@ pub(crate) fn from_digits(alloc: Global, text: &[u8]) -> Result<Digits, AllocErr
     if let Some(octets) = from_dump(alloc, text)? {
         return Ok(Digits::Octets(octets));
     }
-    if is_hexadecimal(text) {
-        return from_hexadecimal(alloc, text);
-    }
-    match from_list(alloc, text)? {
-        Some(octets) => Ok(Digits::Octets(octets)),
-        None => Ok(Digits::Other),
+    match from_hexadecimal(alloc, text)? {
+        Digits::Other => match from_list(alloc, text)? {
+            Some(octets) => Ok(Digits::Octets(octets)),
+            None => Ok(Digits::Other),
+        },
+        found => Ok(found),
     }
 }
 
-/// Returns the octets of digits between which white space may be, unless there is an odd number.
+/// Returns the octets of digits between which white space may be.
 fn from_hexadecimal(alloc: Global, text: &[u8]) -> Result<Digits, AllocError> {
-    let mut digits = Vec::new(alloc);
+    let mut octets = Vec::new(alloc);
+    let mut first = None;
     for octet in text {
-        if !octet.is_ascii_whitespace() {
-            digits.push(*octet)?;
+        match (value_of(*octet), first) {
+            (Some(digit), None) => first = Some(digit),
+            (Some(digit), Some(high)) => {
+                octets.push(high.wrapping_shl(4) | digit)?;
+                first = None;
+            }
+            (None, _) if octet.is_ascii_whitespace() => {}
+            (None, _) => return Ok(Digits::Other),
         }
     }
-    match hex::decode(alloc, &digits) {
-        Ok(octets) => Ok(Digits::Octets(octets)),
-        Err(FromHexError::OutOfMemory) => Err(AllocError),
-        Err(_) => Ok(Digits::Odd),
-    }
+    Ok(match first {
+        Some(_) => Digits::Odd,
+        None => Digits::Octets(octets),
+    })
 }
 
 /// Returns the octets of a list.
@@ -99,17 +99,22 @@ fn begins_with_x(word: &[u8]) -> bool {
     matches!(word.first(), Some(b'x' | b'X'))
 }
 
-/// Adds the octets of a word: of one digit, or of an even number. Returns whether it is such.
+/// Adds the octets of a word: of one digit, or of an even number. Returns whether it is such; nothing
+/// is added otherwise.
 fn add_digits(word: &[u8], octets: &mut Vec<u8>) -> Result<bool, AllocError> {
     if word.is_empty() || (word.len() > 1 && word.len() % 2 == 1) {
         return Ok(false);
     }
+    let before = octets.len();
     for pair in word.chunks(2) {
         let mut value = 0u8;
         for digit in pair {
             match value_of(*digit) {
                 Some(digit) => value = value.wrapping_shl(4) | digit,
-                None => return Ok(false),
+                None => {
+                    octets.truncate(before);
+                    return Ok(false);
+                }
             }
         }
         octets.push(value)?;
@@ -246,9 +251,6 @@ fn add_line(
 /// Adds the octets of a group: of two digits, or more if there may be. Returns whether it is one.
 fn add_group(word: &[u8], may_be_grouped: bool, octets: &mut Vec<u8>) -> Result<bool, AllocError> {
     if word.len() != 2 && !(may_be_grouped && word.len() % 2 == 0) {
-        return Ok(false);
-    }
-    if !word.iter().all(|octet| octet.is_ascii_hexdigit()) {
         return Ok(false);
     }
     add_digits(word, octets)

@@ -352,37 +352,57 @@ fn print_held(
     form: Form,
     octets: &[u8],
 ) -> Appended {
-    let (alloc, known, hint) = (place.alloc, place.known, place.hint.unwrap_or(""));
-    let known_type = if place.levels > MESSAGE_LEVELS {
-        known.find(form, hint)
-    } else {
-        None
-    };
-    let Some(id) = known_type else {
-        if form == Form::Open {
-            return print_encoding(text, place, octets);
+    let (alloc, known) = (place.alloc, place.known);
+    match held_by(place, form, octets)? {
+        Held::Unknown if form == Form::Open => print_encoding(text, place, octets),
+        Held::Unknown => {
+            let shown = leaf_text(alloc, known, None, value, known.is_cut)?;
+            push_line(text, place, &shown)
         }
-        return push_line(
-            text,
-            place,
-            &leaf_text(alloc, known, None, value, known.is_cut)?,
-        );
+        Held::Value(id, held) => {
+            let inner = LinePlace {
+                hint: None,
+                ..place
+            };
+            print(text, inner, &known.schema.view(id, &held))
+        }
+        Held::Refused(cause) => {
+            let shown = digits_text(alloc, octets, known.is_cut)?;
+            push_line(text, place, &format!(in alloc; "{shown} ({cause})")?)
+        }
+    }
+}
+
+/// Octets of an open type or a string, read by the type that the identifier beside them names.
+#[derive(Drop)]
+enum Held<'input> {
+    /// Octets: nothing says their type.
+    Unknown,
+    /// The encoding of this value of the type with this number.
+    Value(TypeId, Value<'input>),
+    /// None of its type, for this reason.
+    Refused(String),
+}
+
+/// Returns what octets in this form are.
+fn held_by<'input>(
+    place: LinePlace<'_>,
+    form: Form,
+    octets: &'input [u8],
+) -> Result<Held<'input>, AllocError> {
+    let (alloc, known, hint) = (place.alloc, place.known, place.hint.unwrap_or(""));
+    if place.levels <= MESSAGE_LEVELS {
+        return Ok(Held::Unknown);
+    }
+    let Some(id) = known.find(form, hint) else {
+        return Ok(Held::Unknown);
     };
     match decode(alloc, place.rule, &known.schema, id, octets) {
-        Ok(value) => {
-            let hint = None;
-            print(
-                text,
-                LinePlace { hint, ..place },
-                &known.schema.view(id, &value),
-            )
-        }
+        Ok(value) => Ok(Held::Value(id, value)),
         Err(error) if error.is_out_of_memory() => Err(AllocError),
         Err(error) => {
-            let shown = digits_text(alloc, octets, known.is_cut)?;
             let cause = text_of(alloc, &error, octets, End::Input)?;
-            let shown = format!(in alloc; "{shown} (not of {hint}: {cause})")?;
-            push_line(text, place, &shown)
+            Ok(Held::Refused(format!(in alloc; "not of {hint}: {cause}")?))
         }
     }
 }

@@ -8,7 +8,7 @@ use crate::fault::CallFault;
 use crate::input::{Form, form_of, form_of_line, is_plain_text, without_mark};
 use crate::known::Candidates;
 use crate::messages::{TRUST, TRUSTED};
-use crate::page::{page_block, page_head, refused_data};
+use crate::page::{page_block, page_data, page_head};
 use crate::pasted::unindented;
 use crate::pem_fault::block_fault;
 use crate::printer::large::Lines;
@@ -22,7 +22,7 @@ use crate::work::{
 use json::Scratch;
 use rasn_text::{Block, Escaping, visible};
 use std::alloc::{AllocError, Global};
-use std::io::{self, BufRead, ErrorKind, Write};
+use std::io::{self, BufRead, BufReader, ErrorKind, Read, Write};
 use std::{fmt, slice, str};
 
 /// What is added to why text is refused.
@@ -87,10 +87,12 @@ impl<W: Write + Drop, E: Write + Drop> Session<'_, '_, '_, W, E> {
         let is_headed = self.call.has_headings() && self.call.files.len() > 1;
         match form_of(alloc, self.call, text)? {
             Form::Pem(blocks) => self.pem(name, text, blocks.as_slice(), is_headed),
-            Form::Text(octets) => self.octets(name, &octets, true, is_headed),
+            Form::Text(octets) if self.call.is_stream => self.octets(name, &octets, true),
+            Form::Text(octets) => self.message(name, &Input::text(&octets), is_headed),
             Form::Wrong(reason) => self.refuse(name, &reason),
             Form::Octets if self.call.work == Work::Encode => self.values(name, text),
-            Form::Octets => self.octets(name, octets, false, is_headed),
+            Form::Octets if self.call.is_stream => self.octets(name, octets, false),
+            Form::Octets => self.message(name, &Input::of(octets), is_headed),
         }
     }
 
@@ -128,22 +130,9 @@ impl<W: Write + Drop, E: Write + Drop> Session<'_, '_, '_, W, E> {
         Ok(())
     }
 
-    /// Works on the message that octets are or, if several are in a row, on each of them and on what
-    /// follows the last whole encoding.
-    fn octets(
-        &mut self,
-        name: &str,
-        octets: &[u8],
-        is_text: bool,
-        is_headed: bool,
-    ) -> Result<(), CallFault> {
-        if !self.call.is_stream {
-            let input = Input {
-                is_text,
-                ..Input::of(octets)
-            };
-            return self.message(name, &input, is_headed);
-        }
+    /// Works on each of the messages that octets are in a row, and on what follows the last whole
+    /// encoding.
+    fn octets(&mut self, name: &str, octets: &[u8], is_text: bool) -> Result<(), CallFault> {
         let alloc = self.alloc;
         let is_headed = self.call.has_headings();
         let mut rest = octets;
@@ -244,23 +233,14 @@ impl<W: Write + Drop, E: Write + Drop> Session<'_, '_, '_, W, E> {
                     text.push_str(NO_FORM)?;
                 }
                 if self.call.has_html {
-                    self.write_refused(name, input.octets, &reason)?;
+                    let reasons = slice::from_ref(&reason);
+                    let data = page_data(self.alloc, input.octets, "", None, reasons)?;
+                    let block = page_block(self.alloc, name, &data)?;
+                    self.write(&block)?;
                 }
                 self.refuse(name, &text)
             }
         }
-    }
-
-    /// Writes the block of a message that is refused.
-    fn write_refused(
-        &mut self,
-        name: &str,
-        octets: &[u8],
-        reason: &Reason,
-    ) -> Result<(), CallFault> {
-        let data = refused_data(self.alloc, octets, reason)?;
-        let block = page_block(self.alloc, name, &data)?;
-        self.write(&block)
     }
 
     /// Writes the name of a message, if that is wanted.
@@ -407,20 +387,34 @@ impl<W: Write + Drop, E: Write + Drop> Session<'_, '_, '_, W, E> {
     }
 
     /// Works on each line of an input, and prints a line for it; if that is data, why a line is
-    /// refused is printed elsewhere. A line that is refused, and an input that can't be read, or
-    /// from a block of PEM on, set `is_refused` and are no errors.
+    /// refused is printed elsewhere. The output is flushed before more of the input is read, so that
+    /// it has the results of all lines that are there. A line that is refused, and an input that
+    /// can't be read, or from a block of PEM on, set `is_refused` and are no errors.
     ///
     /// # Errors
     /// As `flush`.
-    pub fn lines<R: BufRead + Drop>(&mut self, name: &str, reader: R) -> Result<(), CallFault> {
-        for (index, line) in reader.split(self.alloc, b'\n').enumerate() {
-            match line {
-                Ok(line) if without_mark(&line).starts_with(b"-----BEGIN ") => {
-                    return self.refuse(name, &"PEM, which is read without --lines");
-                }
-                Ok(line) => self.line(name, index, &line)?,
+    pub fn lines<R: Read + Drop>(
+        &mut self,
+        name: &str,
+        reader: BufReader<R>,
+    ) -> Result<(), CallFault> {
+        let mut reader = reader;
+        let mut line = Vec::new(self.alloc);
+        for index in 0..usize::MAX {
+            if reader.buffer().is_empty() {
+                self.flush()?;
+            }
+            line.clear();
+            match reader.read_until(b'\n', &mut line) {
+                Ok(0) => break,
+                Ok(_) => {}
                 Err(error) => return self.unreadable(name, &error),
             }
+            let text = line.strip_suffix(b"\n").unwrap_or(line.as_slice());
+            if without_mark(text).starts_with(b"-----BEGIN ") {
+                return self.refuse(name, &"PEM, which is read without --lines");
+            }
+            self.line(name, index, text)?;
         }
         Ok(())
     }
@@ -452,11 +446,7 @@ impl<W: Write + Drop, E: Write + Drop> Session<'_, '_, '_, W, E> {
     /// Works on the message of the line with this number: the octets that the line denotes, or its
     /// JSON.
     fn line_message(&mut self, name: &str, number: usize, octets: &[u8]) -> Result<(), CallFault> {
-        let input = Input {
-            is_text: true,
-            ..Input::of(octets)
-        };
-        match self.answer(&input)? {
+        match self.answer(&Input::text(octets))? {
             Answer::Done(text) if text.is_empty() => self.write(b"ok\n"),
             Answer::Done(text) => {
                 if self.call.work == Work::Table {

@@ -3063,6 +3063,7 @@ Universal ::= CHOICE {
     utcTime             UTCTime,
     generalizedTime     GeneralizedTime,
     visibleString       VisibleString,
+    universalString     UniversalString,
     bmpString           BMPString
 }
 

@@ -1,9 +1,10 @@
 //! What is done with each message.
-ghost use Rattle.std.specs.Prelude.{◌≡◌, Some, IfOk, IsTrue, slice_get};
-ghost use Rattle.rasn_types.specs.declared.types.codec.Codec.TheVariants.{Der};
+ghost use Rattle.std.specs.Prelude.{◌≡◌, false, Some, IfOk, IsTrue, slice_get};
+ghost use Rattle.rasn_types.specs.declared.types.codec.Codec.TheVariants.{Ber, Der};
+ghost use Rattle.rasn_lint.specs.LocalTimes.{IsFirstIn};
 ghost use Rattle.rasn_print.specs.declared.types.MessageType.{MessageType};
-ghost use Rattle.rasn_print.specs.declared.command_line.Work.TheVariants.{Check};
-ghost use Rattle.rasn_print.specs.Verdicts.{IsVerdict, IsDerVerdict, IsRefusal, opens_of};
+ghost use Rattle.rasn_print.specs.declared.command_line.Work.TheVariants.{Check, Encode, Normalise};
+ghost use Rattle.rasn_print.specs.Verdicts.{IsVerdict, IsDerVerdict, IsRefusal, IsInForm, IsEncoded, HasNoLocalTime, opens_of};
 
 use crate::command_line::{Call, Work};
 use crate::dump::{End, Entries, deeper_at};
@@ -13,10 +14,11 @@ use crate::fingerprint::fingerprint_line;
 use crate::guess::{Likeness, likeness_of};
 use crate::known::{Candidates, Known};
 use crate::offsets::offsets_text;
+use crate::page::list::{Listed, Nest, list};
 use crate::page::page_data;
 use crate::printer::large::LARGE;
 use crate::printer::line_text;
-use crate::printer::object::object_text;
+use crate::printer::object::{laid_out, object_text};
 use crate::query::{part_at, row_text};
 use crate::reading::{check, read_alone, remainder, show};
 use crate::reason::{ADVICE, Reason, path_of};
@@ -27,10 +29,10 @@ use crate::values::error_after;
 use base64::engine::general_purpose::STANDARD;
 use rasn_dynamic::{Refusal, WriteError, decode};
 use rasn_json::{EncodeJsonError, JsonError, Layout, encode, to_json};
-use rasn_lint::{Departure, LintError, OpenTypes, check as check_der, lint};
+use rasn_lint::{Departure, LintError, OpenTypes, check as check_der, lint, local_time};
 use rasn_schema::{Type, TypeId, Value, View, part_type, type_at};
 use rasn_text::{Escaping, is_hidden, visible};
-use rasn_types::error::DecodeErrorKind;
+use rasn_types::error::{BerDecodeErrorKind, CodecDecodeError, DecodeErrorKind};
 use rasn_types::types::{Codec, Hexadecimal, Tag};
 use std::alloc::{AllocError, Global};
 use std::{fmt, str};
@@ -38,6 +40,12 @@ use std::{fmt, str};
 /// How many encodings may be in one another in a message of which all departures are listed: each
 /// of those in open types has its path.
 const LINTED: usize = 256;
+
+/// Says, after why a local time is refused, how it is taken.
+const NO_ZONE: &str = ": it has no zone; --local utc counts it as one of UTC";
+
+/// Says, after why octets aren't written, where the fault is.
+const UNWRITTEN: &str = ", in the octets that would be written";
 
 /// What every message is worked on with.
 #[derive(Clone, Copy)]
@@ -71,6 +79,14 @@ impl<'a> Input<'a> {
             label: None,
             is_text: false,
             before: "",
+        }
+    }
+
+    /// Returns octets that were text.
+    pub(crate) fn text(octets: &'a [u8]) -> Input<'a> {
+        Input {
+            is_text: true,
+            ..Input::of(octets)
         }
     }
 
@@ -228,6 +244,8 @@ fn answer_as(context: &Context<'_>, wanted: &MessageType<'_>, input: &Input<'_>)
 fn answer_by(context: &Context<'_>, wanted: &MessageType<'_>, input: &Input<'_>) -> Answered
     ensures der { context.now.call.now.work ≡ Check → wanted.now.rule ≡ Der → IfOk result (IsDerVerdict (opens_of wanted.now.holds_open context.now.call.now.open_types) wanted.now input.now.octets.now) }
     ensures other { context.now.call.now.work ≡ Check → (wanted.now.rule ≡ Der → ⊥) → IfOk result (IsVerdict wanted.now input.now.octets.now) }
+    ensures encoded { context.now.call.now.work ≡ Encode → wanted.now.rule ≡ Der → IfOk result (IsEncoded (opens_of wanted.now.holds_open context.now.call.now.open_types) wanted.now input.now) }
+    ensures zones { context.now.call.now.work ≡ Normalise → wanted.now.rule ≡ Ber → context.now.call.now.is_local_utc ≡ false → IfOk result (HasNoLocalTime wanted.now input.now.octets.now) }
 {
     let message = Message {
         context,
@@ -255,6 +273,15 @@ fn refused_for<T: fmt::Display>(alloc: Global, reason: &T) -> Answered
     Ok(Answer::Refused(Reason::of(alloc, reason)?))
 }
 
+/// Returns a refusal for this reason, to which more is added.
+fn explained(reason: Reason, more: &str) -> Answered
+    ensures { IfOk result IsRefusal }
+{
+    let mut reason = reason;
+    reason.text.push_str(more)?;
+    Ok(Answer::Refused(reason))
+}
+
 /// A message that is worked on, with its type.
 #[derive(Clone, Copy)]
 struct Message<'m, 'input> {
@@ -265,11 +292,16 @@ struct Message<'m, 'input> {
 }
 
 impl Message<'_, '_> {
-    /// Returns why it is refused. Of octets that a value has after its parts the place is that of
-    /// the first of them.
+    /// Returns that it is refused.
     fn refused(&self, refusal: Refusal) -> Answered
         ensures { IfOk result IsRefusal }
     {
+        Ok(Answer::Refused(self.reason_of(refusal)?))
+    }
+
+    /// Returns why it is refused. Of octets that a value has after its parts the place is that of
+    /// the first of them.
+    fn reason_of(&self, refusal: Refusal) -> Result<Reason, AllocError> {
         let mut refusal = refusal;
         if refusal.error.is_out_of_memory() {
             return Err(AllocError);
@@ -279,12 +311,12 @@ impl Message<'_, '_> {
         let text = self.text_of(&mut entries, &refusal, &None)?;
         refusal.offset = self.first_of(&refusal);
         let shown = refusal.with_names(self.wanted.schema, self.wanted.root);
-        Ok(Answer::Refused(Reason {
+        Ok(Reason {
             guess: None,
             path: path_of(alloc, &shown, &refusal)?,
             byte: Some(refusal.offset),
             text,
-        }))
+        })
     }
 
     /// Returns where what is refused begins.
@@ -398,6 +430,9 @@ impl Message<'_, '_> {
     {
         if found.inner.is_some() {
             return self.refused_at(&found);
+        }
+        if is_refused_by_all(&found.refusal.error.kind) {
+            return self.refused(found.refusal);
         }
         let (alloc, (_, schema, root)) = (self.context.alloc, self.wanted.parts());
         match lint(alloc, schema, root, self.octets, OpenTypes::Unexamined) {
@@ -527,13 +562,15 @@ impl Message<'_, '_> {
 
     /// Returns its data for a page, with what departs from DER.
     fn shown_on_page(&self) -> Answered {
-        let (context, wanted) = (self.context, self.wanted);
-        let reasons = self.faults()?;
-        let reasons = reasons.as_slice();
-        match page_data(context.alloc, context.known, wanted, self.octets, reasons)? {
-            Ok(data) => Ok(Answer::Done(data)),
-            Err(refusal) => self.refused(refusal),
+        let (alloc, wanted) = (self.context.alloc, self.wanted);
+        let mut listed = Listed::new(alloc, self.context.known, wanted)?;
+        if let Some(refusal) = list(&mut listed, wanted.root, self.octets, Nest::WHOLE)? {
+            return self.refused(refusal);
         }
+        let reasons = self.faults()?;
+        let (octets, reasons) = (self.octets, reasons.as_slice());
+        let data = page_data(alloc, octets, wanted.name, Some(&listed), reasons)?;
+        Ok(Answer::Done(data))
     }
 
     /// Returns what departs from DER, or why it is refused.
@@ -564,20 +601,16 @@ impl Message<'_, '_> {
         }
     }
 
-    /// Returns the values of the parts that are asked for: in a table a row of them.
-    fn queried(&self) -> Answered {
-        match read_alone(self.context.alloc, self.wanted, self.octets) {
-            Ok(value) => self.values_of(&value),
-            Err(refusal) => self.refused(refusal),
-        }
-    }
-
-    /// Returns the values of parts of a value of its type: a line for each, or a row of a table, which
+    /// Returns the values of the parts that are asked for: a line for each, or a row of a table, which
     /// has nothing for a part that is absent.
-    fn values_of(&self, value: &Value<'_>) -> Answered {
+    fn queried(&self) -> Answered {
         let (alloc, call) = (self.context.alloc, self.context.call);
         let is_table = call.work == Work::Table;
-        let view = self.wanted.schema.view(self.wanted.root, value);
+        let value = match read_alone(alloc, self.wanted, self.octets) {
+            Ok(value) => value,
+            Err(refusal) => return self.refused(refusal),
+        };
+        let view = self.wanted.schema.view(self.wanted.root, &value);
         let mut cells = Vec::new(alloc);
         for path in &call.paths {
             let cell = match part_at(alloc, &view, path.as_str())? {
@@ -638,9 +671,15 @@ impl Message<'_, '_> {
     /// Returns a value of its type as JSON.
     fn json_of(&self, value: &Value<'_>) -> Answered {
         let (alloc, (_, schema, root)) = (self.context.alloc, self.wanted.parts());
-        match to_json(alloc, schema, root, value, self.context.call.layout()) {
-            Ok(text) if self.context.call.has_exact_numbers => {
-                json_line(alloc, exact_numbers(alloc, text.as_str())?)
+        let (layout, is_exact) = (
+            self.context.call.layout(),
+            self.context.call.has_exact_numbers,
+        );
+        let first = if is_exact { Layout::Compact } else { layout };
+        match to_json(alloc, schema, root, value, first) {
+            Ok(text) if is_exact => {
+                let text = exact_numbers(alloc, text.as_str())?;
+                json_line(alloc, laid_out(alloc, text, layout)?)
             }
             Ok(text) => json_line(alloc, text),
             Err(error) if error.is_out_of_memory() => Err(AllocError),
@@ -661,20 +700,46 @@ impl Message<'_, '_> {
     }
 
     /// Returns the octets of the message whose JSON is read.
-    fn encoded(&self) -> Answered {
+    fn encoded(&self) -> Answered
+        ensures { self.now.wanted.now.rule ≡ Der → IfOk result (IsEncoded (opens_of self.now.wanted.now.holds_open self.now.context.now.call.now.open_types) self.now.wanted.now self.now.input.now) }
+    {
         let (alloc, (rule, schema, root)) = (self.context.alloc, self.wanted.parts());
         let Ok(text) = str::from_utf8(self.octets) else {
             return refused_for(alloc, &"not UTF-8");
         };
         match encode(alloc, rule, schema, root, text) {
-            Ok(octets) => in_form(alloc, self.input, octets),
+            Ok(octets) => match rule {
+                Codec::Der => self.written(octets),
+                Codec::Ber | Codec::Cer => in_form(alloc, self.input, octets),
+            },
             Err(error) if error.is_out_of_memory() => Err(AllocError),
             Err(error) => self.not_encoded(error),
         }
     }
 
+    /// Returns octets that were encoded under DER in the form of the input. They are refused as by
+    /// `check`, since those of an open type are what the JSON has.
+    fn written(&self, octets: Vec<u8>) -> Answered
+        ensures { IfOk result (IsEncoded (opens_of self.now.wanted.now.holds_open self.now.context.now.call.now.open_types) self.now.wanted.now self.now.input.now) }
+    {
+        let written = Message {
+            context: self.context,
+            wanted: self.wanted,
+            octets: &octets,
+            input: self.input,
+        };
+        match written.checked()? {
+            Answer::Refused(reason) => explained(reason, UNWRITTEN),
+            Answer::Done(_) | Answer::Large(_) | Answer::Departures(_) => {
+                in_form(self.context.alloc, self.input, octets)
+            }
+        }
+    }
+
     /// Returns why JSON isn't encoded, with the name that was probably meant by one that isn't known.
-    fn not_encoded(&self, error: EncodeJsonError) -> Answered {
+    fn not_encoded(&self, error: EncodeJsonError) -> Answered
+        ensures { IfOk result IsRefusal }
+    {
         let (alloc, wanted) = (self.context.alloc, self.wanted);
         match error {
             EncodeJsonError::Json(error) => {
@@ -686,11 +751,37 @@ impl Message<'_, '_> {
         }
     }
 
+    /// Returns its DER octets, if DER reads these as the same value. A local time is refused, which
+    /// is no instant in UTC (X.680 46.3), unless the call says that it counts as one.
+    fn normalised(&self) -> Answered
+        ensures { self.now.wanted.now.rule ≡ Ber → self.now.context.now.call.now.is_local_utc ≡ false → IfOk result (HasNoLocalTime self.now.wanted.now self.now.octets.now) }
+    {
+        match self.local_time() {
+            Ok(None) => self.normal(),
+            Ok(Some(refusal)) => explained(self.reason_of(refusal)?, NO_ZONE),
+            Err(refusal) => self.refused(refusal),
+        }
+    }
+
     /// Returns its DER octets, if DER reads these as the same value.
-    fn normalised(&self) -> Answered {
+    fn normal(&self) -> Answered {
         match read_alone(self.context.alloc, self.wanted, self.octets) {
             Ok(value) => self.normal_of(&value),
             Err(refusal) => self.refused(refusal),
+        }
+    }
+
+    /// Returns the refusal of the first local time of the message, which BER alone has, unless the
+    /// call says what such a time counts as.
+    fn local_time(&self) -> Result<Option<Refusal>, Refusal>
+        ensures { self.now.wanted.now.rule ≡ Ber → self.now.context.now.call.now.is_local_utc ≡ false → IfOk result (IsFirstIn self.now.wanted.now.schema.now.types.items Ber self.now.wanted.now.root.0 self.now.octets.now) }
+    {
+        let (rule, schema, root) = self.wanted.parts();
+        match rule {
+            Codec::Ber if !self.context.call.is_local_utc => {
+                local_time(self.context.alloc, rule, schema, root, self.octets)
+            }
+            Codec::Ber | Codec::Cer | Codec::Der => Ok(None),
         }
     }
 
@@ -719,6 +810,22 @@ fn json_line(alloc: Global, text: String) -> Answered {
     let mut text = printed(alloc, Escaping::Json, text)?;
     text.push('\n')?;
     Ok(Answer::Done(text.into_bytes()))
+}
+
+/// Returns whether BER refuses octets for which the reader of DER has such an error, so that no list
+/// of departures has a place for it.
+fn is_refused_by_all(kind: &DecodeErrorKind) -> bool {
+    matches!(
+        kind,
+        DecodeErrorKind::Incomplete { .. }
+            | DecodeErrorKind::UnexpectedExtraData { .. }
+            | DecodeErrorKind::UnexpectedEmptyInput
+            | DecodeErrorKind::NoValidChoice { .. }
+            | DecodeErrorKind::MissingField { .. }
+            | DecodeErrorKind::CodecSpecific {
+                inner: CodecDecodeError::Ber(BerDecodeErrorKind::MismatchedTag { .. }),
+            }
+    )
 }
 
 /// Returns whether memory ran out.
@@ -786,7 +893,9 @@ fn colored(alloc: Global, text: &str) -> Result<String, AllocError> {
 
 /// Returns octets in the form of an input: as a block of PEM (RFC 7468 2), a line of hexadecimal
 /// digits, or as they are.
-fn in_form(alloc: Global, input: &Input<'_>, octets: Vec<u8>) -> Answered {
+fn in_form(alloc: Global, input: &Input<'_>, octets: Vec<u8>) -> Answered
+    ensures { IfOk result (IsInForm input.now octets.items) }
+{
     let text = match input.label {
         Some(label) => {
             let label = visible(alloc, Escaping::Line, label)?;

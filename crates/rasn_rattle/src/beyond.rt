@@ -1,5 +1,6 @@
 //! What contracts say of a value besides its tree: what it keeps of its octets, which is the offset
 //! of a GeneralizedTime, and which errors there are if it can't be read.
+use crate::choice::{Branch, names_text};
 use crate::plan::Plan;
 use crate::template::{Values, push_separator};
 use rasn_schema::{LeafKind, Type};
@@ -132,7 +133,7 @@ impl Plan<'_> {
             return Ok(String::new(self.alloc));
         }
         let mut values = Values::new(self.alloc);
-        values.add_str("tree", tree)?;
+        values.add_str("tree", tree);
         values.filled(if is_set { OF_SET } else { OF_SEQUENCE })
     }
 
@@ -141,10 +142,10 @@ impl Plan<'_> {
         &self,
         id: usize,
         is_set: bool,
-        part_names: String,
+        part_names: Result<String, AllocError>,
     ) -> Result<String, AllocError> {
         let mut values = self.values_of(id)?;
-        values.add("part_names", part_names)?;
+        values.add("part_names", part_names);
         values.filled(if is_set {
             ERRORS_OF_SET
         } else {
@@ -152,19 +153,18 @@ impl Plan<'_> {
         })
     }
 
-    /// Returns what the value of a CHOICE keeps, whose alternatives keep this.
+    /// Returns what the value of a CHOICE with these alternatives keeps.
     pub(crate) fn beyond_of_choice(
         &self,
         id: usize,
-        names: &str,
-        kept: &str,
+        branches: &[Branch<'_>],
     ) -> Result<String, AllocError> {
         if !self.timed.contains(&id) {
             return Ok(String::new(self.alloc));
         }
         let mut values = self.values_of(id)?;
-        values.add_str("names", names)?;
-        values.add_str("kept", kept)?;
+        values.add("names", names_text(self.alloc, branches));
+        values.add("kept", self.kept_text(branches));
         values.filled(OF_CHOICE)
     }
 
@@ -194,7 +194,7 @@ impl Plan<'_> {
             return Ok(String::new(self.alloc));
         }
         let mut values = Values::new(self.alloc);
-        values.add_str("inner", inner)?;
+        values.add_str("inner", inner);
         values.filled(OF_CONSTRAINED)
     }
 }

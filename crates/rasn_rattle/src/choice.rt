@@ -120,34 +120,32 @@ impl<'schema> Plan<'schema> {
         let branches = branches.as_slice();
         let is_open = branches.last().is_some_and(|last| last.is_unknown);
         let laws = self.laws_of(id)?;
-        let imports = self.imports_of(&laws, false, branches.len() > 1)?;
         let (name, _file) = self.names_of(id);
         let mut values = self.values_of(id)?;
-        values.add_str("choice", if is_open { "open_choice" } else { "choice" })?;
-        values.add("first", self.first_tags_text(name, is_open)?)?;
-        values.add("imports", imports)?;
-        values.add("in_place", self.in_place_text(placed.as_slice())?)?;
-        values.add("variants", self.variants_text(branches)?)?;
-        let names = names_text(self.alloc, branches)?;
-        let kept = self.kept_text(branches)?;
-        values.add(
-            "beyond",
-            self.beyond_of_choice(id, names.as_str(), kept.as_str())?,
-        )?;
-        values.add("errors", values.filled(ERRORS_OF_CHOICE)?)?;
-        values.add("names", names)?;
-        values.add("read_types", types_text(self.alloc, branches, false)?)?;
-        values.add("write_types", types_text(self.alloc, branches, true)?)?;
-        values.add("trees", trees_text(self.alloc, branches)?)?;
-        values.add(
-            "decided",
-            decided_text(self.alloc, branches, laws.search.as_str())?,
-        )?;
-        values.add("present", present_text(self.alloc, branches)?)?;
-        values.add("laws", laws.uses)?;
-        values.add("read", read_text(self.alloc, name, branches)?)?;
-        values.add("write", write_text(self.alloc, name, branches)?)?;
+        values.add_str("choice", if is_open { "open_choice" } else { "choice" });
+        values.add("first", self.first_tags_text(name, is_open));
+        values.add("imports", self.imports_of(&laws, false, branches.len() > 1));
+        values.add("in_place", self.in_place_text(placed.as_slice()));
+        values.add("beyond", self.beyond_of_choice(id, branches));
+        let errors = values.filled(ERRORS_OF_CHOICE);
+        values.add("errors", errors);
+        self.add_branches(&mut values, name, branches);
+        let search = laws.search.as_str();
+        values.add("decided", decided_text(self.alloc, branches, search));
+        values.add("laws", Ok(laws.uses));
         values.filled(CHOICE)
+    }
+
+    /// Adds what a CHOICE with this name has of its alternatives.
+    fn add_branches(&self, values: &mut Values, name: &str, branches: &[Branch<'_>]) {
+        values.add("variants", self.variants_text(branches));
+        values.add("names", names_text(self.alloc, branches));
+        values.add("read_types", types_text(self.alloc, branches, false));
+        values.add("write_types", types_text(self.alloc, branches, true));
+        values.add("trees", trees_text(self.alloc, branches));
+        values.add("present", present_text(self.alloc, branches));
+        values.add("read", read_text(self.alloc, name, branches));
+        values.add("write", write_text(self.alloc, name, branches));
     }
 
     /// Returns the alternatives of a CHOICE.
@@ -218,12 +216,12 @@ impl<'schema> Plan<'schema> {
             return Ok(String::new(self.alloc));
         }
         let mut values = Values::new(self.alloc);
-        values.add_str("Name", name)?;
+        values.add_str("Name", name);
         values.filled(FIRST)
     }
 
     /// Returns what the values of the alternatives keep.
-    fn kept_text(&self, branches: &[Branch<'_>]) -> Result<String, AllocError> {
+    pub(crate) fn kept_text(&self, branches: &[Branch<'_>]) -> Result<String, AllocError> {
         let mut text = String::new(self.alloc);
         for branch in branches {
             let (variant, ty) = (branch.variant.as_str(), branch.expression.as_str());
@@ -245,7 +243,7 @@ impl<'schema> Plan<'schema> {
 }
 
 /// Returns the names of the variants.
-fn names_text(alloc: Global, branches: &[Branch<'_>]) -> Result<String, AllocError> {
+pub(crate) fn names_text(alloc: Global, branches: &[Branch<'_>]) -> Result<String, AllocError> {
     let mut text = String::new(alloc);
     for branch in branches {
         push_separator(&mut text, ", ")?;

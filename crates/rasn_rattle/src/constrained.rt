@@ -101,15 +101,14 @@ impl Plan<'_> {
         let ty = self.type_of(id);
         let laws = self.laws_of(id)?;
         let mut values = self.values_of(id)?;
-        let imports = self.imports_of(&laws, false, false)?;
-        values.add("imports", imports)?;
+        values.add("imports", self.imports_of(&laws, false, false));
         let (bits_use, search) = search_of(ty, laws.search.as_str());
-        values.add_str("bits_use", bits_use)?;
-        values.add_str("search", search)?;
-        values.add_str("laws", laws.uses.as_str())?;
-        values.add_str("present", present_text(ty))?;
+        values.add_str("bits_use", bits_use);
+        values.add_str("search", search);
+        values.add_str("laws", laws.uses.as_str());
+        values.add_str("present", present_text(ty));
         let inner = self.inner_text(id, ty)?;
-        values.add("beyond", self.beyond_of_constrained(id, inner.as_str())?)?;
+        values.add("beyond", self.beyond_of_constrained(id, inner.as_str()));
         add_field(&mut values, inner.as_str(), &constraints_of(ty))?;
         values.filled(CONSTRAINED)
     }
@@ -125,19 +124,19 @@ impl Plan<'_> {
         reason: &str,
     ) -> Result<String, AllocError> {
         let mut values = Values::new(self.alloc);
-        values.add_str("Name", name)?;
-        values.add("head", comment(self.alloc, "//!", notation)?)?;
-        values.add("doc", comment(self.alloc, "///", notation)?)?;
+        values.add_str("Name", name);
+        values.add("head", comment(self.alloc, "//!", notation));
+        values.add("doc", comment(self.alloc, "///", notation));
         values.add(
             "reason",
             format!(in self.alloc;
                 "///\n/// Its values are the octets of encodings, since {reason}.\n"
-            )?,
-        )?;
-        values.add_str("imports", "use rasn::prelude::*;\n")?;
-        values.add_str("search", "Prim.search deciding depth 64")?;
-        values.add_str("present", if word == "Any" { "true" } else { LIST_PRESENT })?;
-        add_tag(&mut values, tag)?;
+            ),
+        );
+        values.add_str("imports", "use rasn::prelude::*;\n");
+        values.add_str("search", "Prim.search deciding depth 64");
+        values.add_str("present", if word == "Any" { "true" } else { LIST_PRESENT });
+        add_tag(&mut values, tag);
         add_field(&mut values, word, &Constraints::NONE)?;
         values.filled(CONSTRAINED)
     }
@@ -163,7 +162,7 @@ fn add_field(
     let alloc = values.alloc;
     let (term, constant) = bounds_of(alloc, constraints)?;
     let words = ["None", "Some", "false", "neg_ℤ", "pos", "true"];
-    values.add("prelude", used(alloc, term.as_str(), &words, "refl")?)?;
+    values.add("prelude", used(alloc, term.as_str(), &words, "refl"));
     values.add_str(
         "range_use",
         if term.as_str().contains("Range") {
@@ -171,12 +170,14 @@ fn add_field(
         } else {
             ""
         },
-    )?;
-    values.add("bounds", term)?;
-    values.add("const_bounds", constant)?;
-    values.add_str("inner", inner)?;
-    values.add("errors", values.filled(ERRORS_OF_CONSTRAINED)?)?;
-    values.add("read", read_text(alloc, inner)?)
+    );
+    values.add("bounds", Ok(term));
+    values.add("const_bounds", Ok(constant));
+    values.add_str("inner", inner);
+    let errors = values.filled(ERRORS_OF_CONSTRAINED);
+    values.add("errors", errors);
+    values.add("read", read_text(alloc, inner));
+    Ok(())
 }
 
 /// Returns how the field is read.

@@ -194,14 +194,14 @@ pub(crate) fn push_default(
 ) -> Result<(), AllocError> {
     let (prelude, shapes) = uses_of(default.tree.as_str());
     let mut values = Values::new(*text.allocator());
-    values.add_str("part", part)?;
-    values.add_str("Default", name)?;
-    values.add_str("prelude", prelude)?;
-    values.add_str("shapes", shapes)?;
-    values.add_str("type", default.ty.as_str())?;
-    values.add_str("tree", default.tree.as_str())?;
-    values.add("head", head_of(*text.allocator(), default)?)?;
-    values.add_str("value", default.value.as_str())?;
+    values.add_str("part", part);
+    values.add_str("Default", name);
+    values.add_str("prelude", prelude);
+    values.add_str("shapes", shapes);
+    values.add_str("type", default.ty.as_str());
+    values.add_str("tree", default.tree.as_str());
+    values.add("head", head_of(*text.allocator(), default));
+    values.add_str("value", default.value.as_str());
     text.push_str(values.filled(DEFAULT)?.as_str())?;
     if let Some(prefix) = &default.prefix {
         writeln!(

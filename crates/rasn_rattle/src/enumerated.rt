@@ -141,11 +141,11 @@ impl Plan<'_> {
         let named = format!(in self.alloc; "{name}Name")?;
         let ty = self.extensible_type(self.type_of(id), named.as_str())?;
         let mut values = Values::new(self.alloc);
-        values.add_str("doc", "/// The names of the numbers.\n")?;
-        values.add_str("crate", self.options.crate_name.as_str())?;
-        values.add_str("file", file)?;
+        values.add_str("doc", "/// The names of the numbers.\n");
+        values.add_str("crate", self.options.crate_name.as_str());
+        values.add_str("file", file);
         self.add_numbers(&mut values, named.as_str(), names)?;
-        values.add("Name", named)?;
+        values.add("Name", Ok(named));
         let names = values.filled(NAMES)?;
         format!(in self.alloc;
             "{head}use rasn::prelude::*;\n\n{doc}pub type {name} = {ty};\n{names}"
@@ -172,15 +172,19 @@ impl Plan<'_> {
         for named in numbers {
             texts.push_number(self.alloc, name, named)?;
         }
-        let prelude = used(self.alloc, texts.known.as_str(), &["neg_ℤ", "pos"], "refl")?;
+        let signs = ["neg_ℤ", "pos"];
+        values.add(
+            "prelude",
+            used(self.alloc, texts.known.as_str(), &signs, "refl"),
+        );
         texts.known.push_str("[]")?;
-        values.add("prelude", prelude)?;
-        values.add("variants", texts.variants)?;
-        values.add("names", texts.names)?;
-        values.add("known", texts.known)?;
-        values.add("numbers", texts.numbers)?;
-        values.add("read", texts.read)?;
-        values.add("write", texts.write)
+        values.add("variants", Ok(texts.variants));
+        values.add("names", Ok(texts.names));
+        values.add("known", Ok(texts.known));
+        values.add("numbers", Ok(texts.numbers));
+        values.add("read", Ok(texts.read));
+        values.add("write", Ok(texts.write));
+        Ok(())
     }
 }
 

@@ -1,5 +1,6 @@
 //! The Rattle type of a part.
 use crate::integers::integer_word;
+use crate::kinds::typed_kind;
 use crate::members::inner_of;
 use crate::plan::Plan;
 use crate::tags::tag_type;
@@ -130,11 +131,11 @@ pub(crate) fn word(ty: &Type) -> &'static str {
             ..
         } => integer_word(constraints).0,
         Type::Leaf {
-            kind: LeafKind::AnyOctets,
+            kind: LeafKind::AnyOctets | LeafKind::Universal,
             tag,
             ..
         } => octets_word(*tag),
-        Type::Leaf { kind, .. } => kind.names().rattle,
+        Type::Leaf { kind, .. } => typed_kind(*kind).names().rattle,
         Type::SequenceOf { .. } => "Vec<",
         Type::SetOf { .. } => "SetOf<",
         Type::Unknown => "Unknown",
@@ -152,11 +153,11 @@ pub(crate) fn word(ty: &Type) -> &'static str {
 fn universal_number(ty: &Type) -> Option<u32> {
     match ty {
         Type::Leaf {
-            kind: LeafKind::AnyOctets,
+            kind: LeafKind::AnyOctets | LeafKind::Universal,
             tag,
             ..
         } if tag.class == Class::Universal => Some(tag.value),
-        Type::Leaf { kind, .. } => Some(kind.names().number),
+        Type::Leaf { kind, .. } => Some(typed_kind(*kind).names().number),
         Type::SequenceOf { .. } => Some(16),
         Type::SetOf { .. } => Some(17),
         Type::Enumerated { .. }

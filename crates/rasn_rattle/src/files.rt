@@ -6,6 +6,7 @@ ghost use Rattle.rasn_rattle.specs.Words.{is_word};
 
 use crate::held_types::Held;
 use crate::kinds::{is_alias, is_extensible};
+use crate::layout::comment;
 use crate::options::Options;
 use crate::output::File;
 use crate::plan::{Naming, Plan};
@@ -34,6 +35,7 @@ pub fn crate_files(options: &Options, held: Held) -> Result<Vec<File>, AllocErro
         schema,
         wanted,
         foreign,
+        modules,
     } = held;
     let names = notation_names(options, &schema)?;
     let schema = schema.with_names(names);
@@ -47,7 +49,7 @@ pub fn crate_files(options: &Options, held: Held) -> Result<Vec<File>, AllocErro
     plan.find_lines()?;
     plan.show_unnamed()?;
     plan.find_lines()?;
-    plan.files()
+    plan.files(modules.as_str())
 }
 
 /// Returns names for all types that a file is written for.
@@ -68,6 +70,8 @@ fn notation_names(options: &Options, schema: &Schema) -> Result<Vec<TypeName>, A
 /// Files, and what the file that lists them has of each.
 #[derive(Drop)]
 struct Files {
+    /// The first lines of each file, which say that it is written, and from which modules.
+    head: String,
     files: Vec<File>,
     /// The lines that name the files, in the order of their names.
     mods: BTreeMap<String, String>,
@@ -84,8 +88,16 @@ impl Files {
         self.mods.insert(String::from_str(alloc, name)?, line)?;
         let line = format!(in alloc; "pub use {name}::{shown};\n")?;
         self.uses.insert(name.replace(alloc, "_", "!")?, line)?;
+        let mut file = file;
+        file.text = self.headed(alloc, file.text.as_str())?;
         self.files.push(file)?;
         Ok(())
+    }
+
+    /// Returns the text of a file after what each file begins with.
+    fn headed(&self, alloc: Global, text: &str) -> Result<String, AllocError> {
+        let head = self.head.as_str();
+        format!(in alloc; "{head}{text}")
     }
 
     /// Adds that the crate has files that are written by hand.
@@ -106,16 +118,24 @@ impl Files {
     }
 
     /// Returns the text of the file that lists the others.
-    fn lib_text(&self, alloc: Global) -> Result<String, AllocError> {
-        let mut text = String::from_str(
-            alloc,
-            "//! Types of an ASN.1 module.\n#![tactic(auto)]\n\n",
-        )?;
+    fn lib_text(&self, alloc: Global, modules: &str) -> Result<String, AllocError> {
+        let about = format!(in alloc; "Types of the ASN.1 of {modules}.")?;
+        let about = comment(alloc, "//!", about.as_str())?;
+        let head = format!(in alloc; "{about}#![tactic(auto)]\n\n")?;
+        let mut text = self.headed(alloc, head.as_str())?;
         push_values(&mut text, &self.mods)?;
         text.push('\n')?;
         push_values(&mut text, &self.uses)?;
         Ok(text)
     }
+}
+
+/// Returns what each file begins with that is written from these modules.
+fn head_of(alloc: Global, modules: &str) -> Result<String, AllocError> {
+    let origin = format!(in alloc;
+        "Written by `soqavise generate` from the ASN.1 of {modules}: change that, and write it again."
+    )?;
+    comment(alloc, "//", origin.as_str())
 }
 
 /// Adds the values of a map.
@@ -127,11 +147,11 @@ fn push_values(text: &mut String, lines: &BTreeMap<String, String>) -> Result<()
 }
 
 impl Plan<'_> {
-    /// Returns the files.
-    fn files(&self) -> Result<Vec<File>, AllocError>
+    /// Returns the files, which are written from these modules.
+    fn files(&self, modules: &str) -> Result<Vec<File>, AllocError>
         ensures { IfOk result (λ files. EndsWithLib files.items) }
     {
-        let mut written = self.type_files()?;
+        let mut written = self.type_files(modules)?;
         written.push_also(self.alloc, self.options)?;
         self.push_open(&mut written, "OpenSequence", "open_sequence", Tag::SEQUENCE)?;
         self.push_open(&mut written, "OpenSet", "open_set", Tag::SET)?;
@@ -142,27 +162,28 @@ impl Plan<'_> {
             reason: None,
         };
         written.push(self.alloc, schema, "TYPES")?;
-        let lib = self.lib_file(&written)?;
+        let lib = self.lib_file(&written, modules)?;
         let Files { mut files, .. } = written;
         files.push(lib)?;
         Ok(files)
     }
 
     /// Returns the file that lists the others.
-    fn lib_file(&self, written: &Files) -> Result<File, AllocError>
+    fn lib_file(&self, written: &Files, modules: &str) -> Result<File, AllocError>
         ensures { IfOk result (λ file. string_bytes file.name ≡ codes "lib") }
     {
         Ok(File {
             name: String::from_str(self.alloc, "lib")?,
-            text: written.lib_text(self.alloc)?,
+            text: written.lib_text(self.alloc, modules)?,
             answers: Vec::new(self.alloc),
             reason: None,
         })
     }
 
     /// Returns the files of types.
-    fn type_files(&self) -> Result<Files, AllocError> {
+    fn type_files(&self, modules: &str) -> Result<Files, AllocError> {
         let mut written = Files {
+            head: head_of(self.alloc, modules)?,
             files: Vec::new(self.alloc),
             mods: BTreeMap::new(self.alloc),
             uses: BTreeMap::new(self.alloc),

@@ -2,6 +2,7 @@
 ghost use Rattle.std.specs.Prelude.{◌≡◌, [], IfOk};
 
 use crate::options::Options;
+use crate::template::push_separator;
 use rasn_compiler::{Library, Module, Modules, TypeRef, Unresolved};
 use rasn_schema::{Schema, TypeId};
 use std::alloc::{AllocError, Global};
@@ -16,6 +17,8 @@ pub struct Held {
     pub(crate) wanted: Vec<TypeId>,
     /// The types that another crate has, with its name.
     pub(crate) foreign: Vec<(TypeId, String)>,
+    /// The names of the modules that these files are written from, with commas between them.
+    pub(crate) modules: String,
 }
 
 /// Returns the types without parameters of the first `wanted` modules, for which files are written,
@@ -32,6 +35,7 @@ pub fn types_held<'text>(
     ensures { wanted ≡ 0 → IfOk result (λ found. IfOk found (λ held. held.wanted.items ≡ [])) }
 {
     let alloc = options.alloc;
+    let modules = first_names(alloc, read, wanted)?;
     let types = named_once(alloc, read, wanted)?;
     let Library {
         schema,
@@ -48,6 +52,7 @@ pub fn types_held<'text>(
         schema,
         wanted: Vec::new(alloc),
         foreign: Vec::new(alloc),
+        modules,
     };
     for root in &roots {
         if root.index < wanted {
@@ -58,6 +63,16 @@ pub fn types_held<'text>(
         }
     }
     Ok(Ok(held))
+}
+
+/// Returns the names of the first modules, as many as `wanted`, with commas between them.
+fn first_names(alloc: Global, read: &Modules<'_>, wanted: usize) -> Result<String, AllocError> {
+    let mut names = String::new(alloc);
+    for module in read.modules.iter().take(wanted) {
+        push_separator(&mut names, ", ")?;
+        names.push_str(module.name)?;
+    }
+    Ok(names)
 }
 
 /// Returns the types without parameters of the first modules, as many as `wanted`, and of those that

@@ -45,6 +45,40 @@ pub(crate) fn is_alias(ty: &Type) -> bool {
     !has_file(ty) || is_extensible(ty)
 }
 
+/// Returns the kind of the type in Rattle of a kind of leaf: that of the octets, where there is none
+/// that says what they mean.
+pub(crate) fn typed_kind(kind: LeafKind) -> LeafKind {
+    match kind {
+        LeafKind::Universal => LeafKind::AnyOctets,
+        LeafKind::RelativeOid | LeafKind::Real => LeafKind::OctetString,
+        LeafKind::Time | LeafKind::Duration | LeafKind::TimeOfDay | LeafKind::DateTime => {
+            LeafKind::Visible
+        }
+        LeafKind::Boolean
+        | LeafKind::Null
+        | LeafKind::ObjectIdentifier
+        | LeafKind::BitString
+        | LeafKind::NamedBits
+        | LeafKind::OctetString
+        | LeafKind::FixedOctetString(_)
+        | LeafKind::Integer
+        | LeafKind::Signed32
+        | LeafKind::Signed64
+        | LeafKind::Unsigned32
+        | LeafKind::Unsigned64
+        | LeafKind::Numeric
+        | LeafKind::Printable
+        | LeafKind::Visible
+        | LeafKind::Ia5
+        | LeafKind::AnyOctets
+        | LeafKind::Bmp
+        | LeafKind::Utf8
+        | LeafKind::UtcTime
+        | LeafKind::GeneralizedTime
+        | LeafKind::Date => kind,
+    }
+}
+
 /// Returns whether a leaf has a constraint that its type doesn't make.
 fn is_constrained(kind: LeafKind, constraints: &Constraints) -> bool {
     let (_word, is_exact) = integer_word(constraints);
@@ -53,7 +87,7 @@ fn is_constrained(kind: LeafKind, constraints: &Constraints) -> bool {
 
 /// Returns whether a string of any octets has a universal tag for which there is no type.
 fn is_other_string(kind: LeafKind, tag: Tag) -> bool {
-    kind == LeafKind::AnyOctets
+    typed_kind(kind) == LeafKind::AnyOctets
         && tag.class == Class::Universal
         && !matches!(tag.value, 20 | 25 | 27)
 }

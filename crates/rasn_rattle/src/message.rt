@@ -29,8 +29,8 @@ impl Plan<'_> {
         };
         let mut text = text;
         let mut values = Values::new(self.alloc);
-        values.add_str("Name", naming.rust.as_str())?;
-        values.add_str("Rules", rules_word(rules))?;
+        values.add_str("Name", naming.rust.as_str());
+        values.add_str("Rules", rules_word(rules));
         text.push_str(values.filled(MESSAGE)?.as_str())?;
         Ok(text)
     }

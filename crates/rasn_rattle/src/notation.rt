@@ -31,12 +31,12 @@ impl<'schema> Plan<'schema> {
         let (name, file) = self.names_of(id);
         let notation = self.notation_of(id)?;
         let mut values = Values::new(self.alloc);
-        values.add_str("Name", name)?;
-        values.add_str("file", file)?;
-        values.add_str("crate", self.options.crate_name.as_str())?;
-        values.add("head", comment(self.alloc, "//!", notation.as_str())?)?;
-        values.add("doc", comment(self.alloc, "///", notation.as_str())?)?;
-        add_tag(&mut values, self.type_of(id).tag())?;
+        values.add_str("Name", name);
+        values.add_str("file", file);
+        values.add_str("crate", self.options.crate_name.as_str());
+        values.add("head", comment(self.alloc, "//!", notation.as_str()));
+        values.add("doc", comment(self.alloc, "///", notation.as_str()));
+        add_tag(&mut values, self.type_of(id).tag());
         Ok(values)
     }
 

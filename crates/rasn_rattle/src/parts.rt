@@ -338,6 +338,11 @@ pub(crate) fn defaults_text(alloc: Global, parts: &[Part<'_>]) -> Result<String,
     Ok(text)
 }
 
+/// Returns whether one of the parts has a default.
+pub(crate) fn has_defaults(parts: &[Part<'_>]) -> bool {
+    parts.iter().any(|part| part.default.is_some())
+}
+
 /// Returns whether the last part is the unknown values of a SET.
 pub(crate) fn ends_with_rest(parts: &[Part<'_>]) -> bool {
     parts.last().is_some_and(|last| last.is_rest)

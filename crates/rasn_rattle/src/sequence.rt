@@ -1,6 +1,7 @@
 //! A SEQUENCE or a SET (X.680 25, 27) as a struct.
 use crate::parts::{
-    Part, defaults_text, ends_with_rest, names_term, parts_text, tree_text, write_text,
+    Part, defaults_text, ends_with_rest, has_defaults, names_term, parts_text, tree_text,
+    write_text,
 };
 use crate::plan::Plan;
 use crate::template::Values;
@@ -75,42 +76,47 @@ impl Encode for @Name@ {
 impl Plan<'_> {
     /// Returns the text of the file of a SEQUENCE or a SET.
     pub(crate) fn struct_text(&self, id: usize) -> Result<String, AllocError> {
-        let ty = self.type_of(id);
-        let is_set = matches!(ty, Type::Set { .. });
         let parts = self.parts_of(id)?;
         let parts = parts.as_slice();
         let laws = self.laws_of(id)?;
-        let defaults = defaults_text(self.alloc, parts)?;
-        let imports = self.imports_of(&laws, !defaults.is_empty(), false)?;
         let mut values = self.values_of(id)?;
-        add_kind(&mut values, is_set, ends_with_rest(parts))?;
-        values.add("imports", imports)?;
-        values.add("fields", self.fields_text(id, parts)?)?;
-        values.add("parts", parts_text(self.alloc, parts)?)?;
-        let tree = tree_text(self.alloc, parts)?;
-        values.add("beyond", self.beyond_of_struct(id, is_set, tree.as_str())?)?;
-        let part_names = names_term(self.alloc, parts)?;
-        values.add("errors", self.errors_of_struct(id, is_set, part_names)?)?;
-        values.add("tree", tree)?;
-        values.add("laws", laws.uses)?;
-        values.add("search", laws.search)?;
-        values.add("read", self.read_text(id, parts, is_set)?)?;
-        values.add("write", write_text(self.alloc, parts, is_set)?)?;
-        values.add("defaults", defaults)?;
+        self.add_components(&mut values, id, parts);
+        values.add(
+            "imports",
+            self.imports_of(&laws, has_defaults(parts), false),
+        );
+        values.add("laws", Ok(laws.uses));
+        values.add("search", Ok(laws.search));
         values.filled(STRUCT)
+    }
+
+    /// Adds what a SEQUENCE or a SET has of its parts.
+    fn add_components(&self, values: &mut Values, id: usize, parts: &[Part<'_>]) {
+        let is_set = matches!(self.type_of(id), Type::Set { .. });
+        let names = names_term(self.alloc, parts);
+        add_kind(values, is_set, ends_with_rest(parts));
+        values.add("fields", self.fields_text(id, parts));
+        values.add("parts", parts_text(self.alloc, parts));
+        values.add("tree", tree_text(self.alloc, parts));
+        let beyond = self.beyond_of_struct(id, is_set, values.value_of("tree"));
+        values.add("beyond", beyond);
+        values.add("errors", self.errors_of_struct(id, is_set, names));
+        values.add("read", self.read_text(id, parts, is_set));
+        values.add("write", write_text(self.alloc, parts, is_set));
+        values.add("defaults", defaults_text(self.alloc, parts));
     }
 }
 
 /// Adds the words in which a SEQUENCE, a SET and a SET with an extension marker differ.
-fn add_kind(values: &mut Values, is_set: bool, is_extensible: bool) -> Result<(), AllocError> {
+fn add_kind(values: &mut Values, is_set: bool, is_extensible: bool) {
     let (prelude, shape) = match (is_set, is_extensible) {
         (false, _) => ("refl", "seq"),
         (true, false) => ("false, refl", "sorted_set false"),
         (true, true) => ("refl, true", "sorted_set true"),
     };
-    values.add_str("prelude", prelude)?;
-    values.add_str("shape", shape)?;
-    values.add_str("shape_use", if is_set { "sorted_set" } else { "seq" })?;
+    values.add_str("prelude", prelude);
+    values.add_str("shape", shape);
+    values.add_str("shape_use", if is_set { "sorted_set" } else { "seq" });
     values.add_str(
         "Trait",
         if is_set {
@@ -118,5 +124,5 @@ fn add_kind(values: &mut Values, is_set: bool, is_extensible: bool) -> Result<()
         } else {
             "DecodeParts"
         },
-    )
+    );
 }

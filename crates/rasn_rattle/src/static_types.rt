@@ -1,6 +1,6 @@
 //! The types as a constant, with the impls that say which type of the constant each Rattle type is.
 use crate::bounds::static_bounds;
-use crate::kinds::is_alias;
+use crate::kinds::{is_alias, typed_kind};
 use crate::layout::{List, listed};
 use crate::plan::Plan;
 use crate::tags::static_tag;
@@ -81,6 +81,7 @@ impl Constant<'_, '_> {
         }
         match ty {
             Type::Leaf { kind, names, .. } => {
+                let kind = typed_kind(*kind);
                 let kind = format!(in self.alloc; "{kind:?}")?;
                 let bounds = static_bounds(self.alloc, &constraints_of(ty))?;
                 let names = self.numbers_text(names)?;

@@ -5,10 +5,11 @@ use std::alloc::{AllocError, Global};
 
 /// Adds the values that a template has for a tag: in contracts, what that is imported from, and as
 /// a constant.
-pub(crate) fn add_tag(values: &mut Values, tag: Tag) -> Result<(), AllocError> {
-    values.add("tag", ghost_tag(values.alloc, tag)?)?;
-    values.add("const_tag", const_tag(values.alloc, tag)?)?;
-    values.add_str("tag_use", tag_use(tag))
+pub(crate) fn add_tag(values: &mut Values, tag: Tag) {
+    let alloc = values.alloc;
+    values.add("tag", ghost_tag(alloc, tag));
+    values.add("const_tag", const_tag(alloc, tag));
+    values.add_str("tag_use", tag_use(tag));
 }
 
 /// Returns a tag as contracts have it.

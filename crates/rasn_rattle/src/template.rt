@@ -1,11 +1,13 @@
 //! Text with values in it.
 use std::alloc::{AllocError, Global};
 
-/// The values of a template's names.
+/// The values of a template's names. Whether memory ran out for one of them is found out when the
+/// template is filled, so that a value is added without a test of its own.
 #[derive(Drop)]
 pub(crate) struct Values {
     pub(crate) alloc: Global,
     values: Vec<(&'static str, String)>,
+    lacks_memory: bool,
 }
 
 impl Values {
@@ -14,23 +16,33 @@ impl Values {
         Values {
             alloc,
             values: Vec::new(alloc),
+            lacks_memory: false,
         }
     }
 
-    /// Adds the value of a name.
-    pub(crate) fn add(&mut self, name: &'static str, value: String) -> Result<(), AllocError> {
-        self.values.push((name, value))?;
-        Ok(())
+    /// Adds the value of a name, or notes that memory ran out for it.
+    pub(crate) fn add(&mut self, name: &'static str, value: Result<String, AllocError>) {
+        let is_added = match value {
+            Ok(value) => self.values.push((name, value)).is_ok(),
+            Err(_) => false,
+        };
+        self.lacks_memory |= !is_added;
     }
 
     /// Adds a copy of the value of a name.
-    pub(crate) fn add_str(&mut self, name: &'static str, value: &str) -> Result<(), AllocError> {
-        let value = String::from_str(self.alloc, value)?;
-        self.add(name, value)
+    pub(crate) fn add_str(&mut self, name: &'static str, value: &str) {
+        self.add(name, String::from_str(self.alloc, value));
     }
 
     /// Returns a template with a value in place of each name, which is between two `@`.
+    ///
+    /// # Errors
+    ///
+    /// Memory runs out for the text, or ran out for a value.
     pub(crate) fn filled(&self, template: &str) -> Result<String, AllocError> {
+        if self.lacks_memory {
+            return Err(AllocError);
+        }
         let mut text = String::new(self.alloc);
         let mut is_name = false;
         for piece in template.split('@') {

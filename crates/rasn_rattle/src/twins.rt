@@ -1,4 +1,5 @@
 //! Types that differ in their tag alone.
+use crate::kinds::typed_kind;
 use crate::members::inner_of;
 use rasn_schema::{
     Alternative, Component, LeafKind, NamedNumber, Presence, Type, Value, components_of,
@@ -35,7 +36,7 @@ pub(crate) fn is_same_but_tag(ty: &Type, other: &Type) -> bool {
 /// Returns the kind of a leaf.
 fn kind_of(ty: &Type) -> Option<LeafKind> {
     match ty {
-        Type::Leaf { kind, .. } => Some(*kind),
+        Type::Leaf { kind, .. } => Some(typed_kind(*kind)),
         _ => None,
     }
 }

@@ -1,22 +1,42 @@
-//! Prints the files of crates that are written of modules. Standard input has a line for each
-//! crate, with the words by which `soqavise generate` writes it, and then the texts of the modules'
-//! files, each after a line with the file's name.
+//! Prints the SHA-256 digests of the files of crates that are written from modules, as `sha256sum`
+//! does. Standard input has a line `===` for each crate, with the words by which `soqavise generate`
+//! writes it, and then the texts of the modules' files, each after a line with the file's name. For
+//! a line `+++` the texts of the files are printed.
 #![tactic(auto)]
 
 use rasn_compiler::{Modules, Source};
-use rasn_rattle::{File, Options, crate_files, types_held};
+use rasn_rattle::{Held, Options, crate_files, types_held};
+use sha2::{Digest, Sha256};
 use std::alloc::{AllocError, Global};
 use std::io;
 
 fn main(rt: HostRuntime) -> io::Result<()> {
     let text = io::read_to_string(rt.alloc(), rt.stdin())?;
     for line in text.as_str().lines() {
-        if let Some(words) = line.strip_prefix("=== ") {
-            let asked = asked_by(rt.alloc(), text.as_str(), words)?;
-            print_crate(&rt, &asked)?;
+        if let Some((mark, words)) = line.split_once(" ") {
+            if let Some(shown) = shown_by(mark) {
+                let asked = asked_by(rt.alloc(), text.as_str(), words)?;
+                print_crate(&rt, &asked, shown)?;
+            }
         }
     }
     Ok(())
+}
+
+/// The form in which the files of a crate are printed.
+#[derive(Clone, Copy)]
+enum Shown {
+    Digest,
+    Text,
+}
+
+/// Returns what a line with this mark asks for; `None` if it asks for no crate.
+fn shown_by(mark: &str) -> Option<Shown> {
+    match mark {
+        "===" => Some(Shown::Digest),
+        "+++" => Some(Shown::Text),
+        _ => None,
+    }
 }
 
 /// A crate that is written.
@@ -105,7 +125,7 @@ fn add(
 }
 
 /// Prints the files of a crate, or what is wrong about its modules.
-fn print_crate(rt: &HostRuntime, asked: &Asked<'_>) -> io::Result<()> {
+fn print_crate(rt: &HostRuntime, asked: &Asked<'_>, shown: Shown) -> io::Result<()> {
     let alloc = rt.alloc();
     let wanted = Modules::parse(alloc, asked.own.as_slice())?.modules.len();
     let read = Modules::parse(alloc, asked.sources.as_slice())?;
@@ -116,27 +136,38 @@ fn print_crate(rt: &HostRuntime, asked: &Asked<'_>) -> io::Result<()> {
         println!(rt; "no type {ty} is known")?;
     }
     match types_held(&asked.options, &read, wanted)? {
-        Ok(held) => print_files(rt, asked.name, &crate_files(&asked.options, held)?),
+        Ok(held) => print_files(rt, asked, held, shown),
         Err(found) => println!(rt; "{}", found.fault),
     }
 }
 
-/// Prints the files of a crate, each after a line with its name.
-fn print_files(rt: &HostRuntime, name: &str, files: &[File]) -> io::Result<()> {
-    for file in files {
-        print_file(rt, name, file)?;
+/// Prints the files of a crate, each with its answers.
+fn print_files(rt: &HostRuntime, asked: &Asked<'_>, held: Held, shown: Shown) -> io::Result<()> {
+    let (alloc, name) = (rt.alloc(), asked.name);
+    for file in &crate_files(&asked.options, held)? {
+        let module = file.name.as_str();
+        let path = format!(in alloc; "crates/{name}/src/{module}.rt")?;
+        print_file(rt, path.as_str(), file.text.as_str(), shown)?;
+        for answers in &file.answers {
+            let (owner, function) = (answers.owner.as_str(), answers.function);
+            let path = format!(in alloc;
+                "crates/{name}/proofs/{module}/{owner}/{function}/Answers.antt"
+            )?;
+            print_file(rt, path.as_str(), answers.text.as_str(), shown)?;
+        }
     }
     Ok(())
 }
 
-/// Prints a file of a crate and its answers.
-fn print_file(rt: &HostRuntime, name: &str, file: &File) -> io::Result<()> {
-    let (module, text) = (file.name.as_str(), file.text.as_str());
-    print!(rt; "=== crates/{name}/src/{module}.rt\n{text}")?;
-    for answers in &file.answers {
-        let (owner, function) = (answers.owner.as_str(), answers.function);
-        print!(rt; "=== crates/{name}/proofs/{module}/{owner}/{function}/Answers.antt\n")?;
-        print!(rt; "{}", answers.text.as_str())?;
+/// Prints the digest of a file and its path, or its path and its text.
+fn print_file(rt: &HostRuntime, path: &str, text: &str, shown: Shown) -> io::Result<()> {
+    match shown {
+        Shown::Digest => {
+            for octet in Sha256::digest(text.as_bytes()) {
+                print!(rt; "{octet:02x}")?;
+            }
+            println!(rt; "  {path}")
+        }
+        Shown::Text => print!(rt; "=== {path}\n{text}"),
     }
-    Ok(())
 }

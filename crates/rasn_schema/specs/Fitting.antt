@@ -7,13 +7,15 @@ use Rattle.rasn_schema.specs.declared.types.Alternative.{Alternative}
 use Rattle.rasn_types.specs.declared.types.strings.alphabet.Alphabet.TheVariants.{Numeric as NumericAlphabet, Printable as PrintableAlphabet, Visible as VisibleAlphabet, Ia5 as Ia5Alphabet}
 use Rattle.rasn_types.specs.CharacterString.{AreAdmitted}
 use Rattle.rasn_types.specs.BitString.{significant}
+use Rattle.rasn_types.specs.Contents.{IsTimeText, AreTimeDigits}
 use Rattle.rasn_types.specs.CowBits.{cow_bits}
 use Rattle.rasn_schema.specs.declared.types.LeafKind.{LeafKind}
-use Rattle.rasn_schema.specs.declared.types.LeafKind.TheVariants.{Boolean as BooleanKind, Null as NullKind, ObjectIdentifier, BitString, NamedBits, OctetString, FixedOctetString, Integer, Signed32, Signed64, Unsigned32, Unsigned64, Numeric, Printable, Visible, Ia5, AnyOctets, Bmp, Utf8, UtcTime, GeneralizedTime, Date}
+use Rattle.rasn_schema.specs.declared.types.LeafKind.TheVariants.{Boolean as BooleanKind, Null as NullKind, ObjectIdentifier, BitString, NamedBits, OctetString, FixedOctetString, Integer, Signed32, Signed64, Unsigned32, Unsigned64, Numeric, Printable, Visible, Ia5, AnyOctets, Bmp, Utf8, UtcTime, GeneralizedTime, Date, Universal, RelativeOid, Real, Time, Duration, TimeOfDay, DateTime}
 use Rattle.rasn_schema.specs.declared.types.Component.{Component}
 use Rattle.rasn_schema.specs.declared.types.«Type».{«Type»}
 use Rattle.rasn_schema.specs.declared.types.«Type».TheVariants.{Leaf, Enumerated, Any, Tagged, Choice, Sequence, Set, SequenceOf, SetOf, Unknown}
 use Rattle.rasn_schema.specs.declared.value.Value.{Value, Boolean, Null, Integer as Number, Bits, Octets, Text, Units, Arcs, Instant, Day, Absent, Items', Elements', Chosen', items-the_row-Value}
+use Rattle.rasn_schema.specs.Reals.{IsCanonicalReal}
 use Rattle.rasn_schema.specs.Trees.{tree_of}
 use Rattle.rasn_schema.specs.Shapes.{presence_of, numbers_of}
 
@@ -26,7 +28,7 @@ NumberFits Unsigned32 n = IsIn (unsigned_range 32) n
 NumberFits Unsigned64 n = IsIn (unsigned_range 64) n
 NumberFits _ n = ⊥
 
--- The octets of a string are in its alphabet.
+-- The octets of a string are in its alphabet. Those of a REAL are canonical.
 abbrev pub OctetsFit : LeafKind → List ℕ → Type 0
 OctetsFit OctetString o = Unit {0}
 OctetsFit (FixedOctetString n) o = length o ≡ n
@@ -35,6 +37,11 @@ OctetsFit Printable o = AreAdmitted PrintableAlphabet o
 OctetsFit Visible o = AreAdmitted VisibleAlphabet o
 OctetsFit Ia5 o = AreAdmitted Ia5Alphabet o
 OctetsFit AnyOctets o = Unit {0}
+OctetsFit Real o = IsCanonicalReal o
+OctetsFit Time o = IsTimeText o
+OctetsFit Duration o = IsTimeText o
+OctetsFit TimeOfDay o = AreTimeDigits 6 o
+OctetsFit DateTime o = AreTimeDigits 14 o
 OctetsFit _ o = ⊥
 
 -- Named bits have no trailing 0 bits.
@@ -49,9 +56,9 @@ FitsLeaf kind Null = kind ≡ NullKind
 FitsLeaf kind (Number n) = NumberFits kind n
 FitsLeaf kind (Bits b) = BitsFit kind (cow_bits b)
 FitsLeaf kind (Octets o) = OctetsFit kind (cow_slice_items o)
-FitsLeaf kind (Text s) = kind ≡ Utf8
+FitsLeaf kind (Text s) = (kind ≡ Utf8) ⊎ (kind ≡ Universal)
 FitsLeaf kind (Units u) = kind ≡ Bmp
-FitsLeaf kind (Arcs a) = kind ≡ ObjectIdentifier
+FitsLeaf kind (Arcs a) = (kind ≡ ObjectIdentifier) ⊎ (kind ≡ RelativeOid)
 FitsLeaf kind (Instant t) = (kind ≡ UtcTime) ⊎ (kind ≡ GeneralizedTime)
 FitsLeaf kind (Day d) = kind ≡ Date
 FitsLeaf kind (Items' _ row) = ⊥

@@ -1,7 +1,7 @@
 -- The numbers and the names of the kinds of leaves.
 use Rattle.std.specs.Prelude.{ℕ, List, [], codes}
 use Rattle.rasn_schema.specs.declared.types.LeafKind.{LeafKind}
-use Rattle.rasn_schema.specs.declared.types.LeafKind.TheVariants.{Boolean, Null, ObjectIdentifier, BitString, NamedBits, OctetString, FixedOctetString, Integer, Signed32, Signed64, Unsigned32, Unsigned64, Numeric, Printable, Visible, Ia5, AnyOctets, Bmp, Utf8, UtcTime, GeneralizedTime, Date}
+use Rattle.rasn_schema.specs.declared.types.LeafKind.TheVariants.{Boolean, Null, ObjectIdentifier, BitString, NamedBits, OctetString, FixedOctetString, Integer, Signed32, Signed64, Unsigned32, Unsigned64, Numeric, Printable, Visible, Ia5, AnyOctets, Bmp, Utf8, UtcTime, GeneralizedTime, Date, Universal, RelativeOid, Real, Time, Duration, TimeOfDay, DateTime}
 
 -- The number of the universal tag (X.680 8.4), the words in a module, the range of an INTEGER of fixed width, and the type in Rattle.
 pub record Names : Type 0 where
@@ -16,7 +16,8 @@ plain number notation rattle = record { number = number; notation = notation; ra
 abbrev whole : List ℕ → List ℕ → Names
 whole rattle range = record { number = 2; notation = codes "INTEGER"; range = range; rattle = rattle }
 
--- What a kind is called. A string of any octets is called a GeneralString.
+-- What a kind is called. A string of any octets is called a GeneralString. Of a kind that has no type in Rattle, the type is
+-- one that holds its octets.
 abbrev pub names_of : LeafKind → Names
 names_of Boolean = plain 1 (codes "BOOLEAN") (codes "bool")
 names_of Null = plain 5 (codes "NULL") (codes "()")
@@ -40,3 +41,10 @@ names_of Utf8 = plain 12 (codes "UTF8String") (codes "Utf8String")
 names_of UtcTime = plain 23 (codes "UTCTime") (codes "UtcTime")
 names_of GeneralizedTime = plain 24 (codes "GeneralizedTime") (codes "GeneralizedTime")
 names_of Date = plain 31 (codes "DATE") (codes "Date")
+names_of Universal = plain 28 (codes "UniversalString") (codes "GeneralString")
+names_of RelativeOid = plain 13 (codes "RELATIVE-OID") (codes "OctetString")
+names_of Real = plain 9 (codes "REAL") (codes "OctetString")
+names_of Time = plain 14 (codes "TIME") (codes "VisibleString")
+names_of Duration = plain 34 (codes "DURATION") (codes "VisibleString")
+names_of TimeOfDay = plain 32 (codes "TIME-OF-DAY") (codes "VisibleString")
+names_of DateTime = plain 33 (codes "DATE-TIME") (codes "VisibleString")

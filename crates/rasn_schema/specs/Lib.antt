@@ -22,3 +22,11 @@ pub mod WorkedFitting
 pub mod WorkedRules
 pub mod Statics
 pub mod Ranged
+pub mod Reals
+pub mod RealParts
+pub mod RealShown
+pub mod Relative
+pub mod TimeTexts
+pub mod WorkedLeaves
+pub mod Numerals
+pub mod Places

@@ -2,13 +2,13 @@
 use Rattle.std.specs.Prelude.{◌≡◌, ℕ, ℤ, zero, suc, Bool, true, false, if◌then◌else◌, List, [], ◌∷◌, Option, Some, None, slice_get, ◌⊎◌}
 use Rattle.rasn_types.specs.declared.types.tag.Tag.{Tag}
 use Rattle.rasn_types.specs.Tags.{eoc}
-use Rattle.rasn_types.specs.Shapes.{Shape, leaf, any, prefix, choice, open_choice, seq, sorted_set, list, set_of, unknown, IsAlwaysPresent, Parts, part, looked_for, Kind, boolean, null, object_identifier, bit_string, named_bits, octet_string, fixed, integer, enumerated, every, numeric, printable, visible, ia5, any_octets, bmp, utf8, utc_time, generalized_time, date, Key, own_tag, first_tags, required, addition, optional_by, default_by, Presence as PartPresence}
+use Rattle.rasn_types.specs.Shapes.{Shape, leaf, any, prefix, choice, open_choice, seq, sorted_set, list, set_of, unknown, IsAlwaysPresent, Parts, part, looked_for, Kind, boolean, null, object_identifier, bit_string, named_bits, octet_string, fixed, integer, enumerated, every, numeric, printable, visible, ia5, any_octets, bmp, universal, utf8, real, time_text, time_digits, utc_time, generalized_time, date, Key, own_tag, first_tags, required, addition, optional_by, default_by, Presence as PartPresence}
 use Rattle.rasn_types.specs.Shapes.Parts.{none}
 use Rattle.rasn_types.specs.Lawful.{IsLawful}
 use Rattle.rasn_types.specs.Trees.{signed_range, unsigned_range, unconstrained}
 use Rattle.rasn_schema.specs.Trees.{tree_of}
 use Rattle.rasn_schema.specs.declared.types.LeafKind.{LeafKind}
-use Rattle.rasn_schema.specs.declared.types.LeafKind.TheVariants.{Boolean, Null, ObjectIdentifier, BitString, NamedBits, OctetString, FixedOctetString, Integer, Signed32, Signed64, Unsigned32, Unsigned64, Numeric, Printable, Visible, Ia5, AnyOctets, Bmp, Utf8, UtcTime, GeneralizedTime, Date}
+use Rattle.rasn_schema.specs.declared.types.LeafKind.TheVariants.{Boolean, Null, ObjectIdentifier, BitString, NamedBits, OctetString, FixedOctetString, Integer, Signed32, Signed64, Unsigned32, Unsigned64, Numeric, Printable, Visible, Ia5, AnyOctets, Bmp, Utf8, UtcTime, GeneralizedTime, Date, Universal, RelativeOid, Real, Time, Duration, TimeOfDay, DateTime}
 use Rattle.rasn_schema.specs.declared.types.Presence.{Presence}
 use Rattle.rasn_schema.specs.declared.types.Presence.TheVariants.{Required, Optional, Addition, Default}
 use Rattle.rasn_schema.specs.declared.types.Component.{Component}
@@ -17,6 +17,7 @@ use Rattle.rasn_schema.specs.declared.types.NamedNumber.{NamedNumber}
 use Rattle.rasn_schema.specs.declared.types.«Type».{«Type»}
 use Rattle.rasn_schema.specs.declared.types.«Type».TheVariants.{Leaf, Enumerated, Any, Tagged, Choice, Sequence, Set, SequenceOf, SetOf, Unknown}
 
+-- The contents octets of a RELATIVE-OID are those of the OBJECT IDENTIFIER whose first subidentifier is its first arc (X.690 8.19.4, 8.20).
 abbrev pub kind_of : LeafKind → Kind
 kind_of Boolean = boolean
 kind_of Null = null
@@ -40,6 +41,13 @@ kind_of Utf8 = utf8
 kind_of UtcTime = utc_time
 kind_of GeneralizedTime = generalized_time
 kind_of Date = date
+kind_of Universal = universal
+kind_of RelativeOid = object_identifier
+kind_of Real = real
+kind_of Time = time_text
+kind_of Duration = time_text
+kind_of TimeOfDay = time_digits 6
+kind_of DateTime = time_digits 14
 
 -- the numbers of an ENUMERATED
 abbrev pub numbers_of : List NamedNumber → List ℤ

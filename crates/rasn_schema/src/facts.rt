@@ -1,6 +1,7 @@
 //! Facts about values, types and the rules of types that were worked out by hand.
 ghost use Rattle.rasn_schema.specs.WorkedHeld.{WorkedHeld};
 ghost use Rattle.rasn_schema.specs.WorkedFitting.{WorkedFitting};
+ghost use Rattle.rasn_schema.specs.WorkedLeaves.{WorkedLeaves};
 ghost use Rattle.rasn_schema.specs.WorkedRules.{WorkedRules};
 
 /// Proves which values are parts, which have names and which are copies, what types are made of,
@@ -13,6 +14,13 @@ pub fn worked_held()
 /// runs.
 pub fn worked_fitting()
     ensures { WorkedFitting }
+{}
+
+/// Proves which contents octets are a REAL, a RELATIVE-OID, characters of a UniversalString or a
+/// time, and which aren't; and that the octets of a RELATIVE-OID are those of the OBJECT IDENTIFIER
+/// that holds its arcs. The function does nothing when it runs.
+pub fn worked_leaves()
+    ensures { WorkedLeaves }
 {}
 
 /// Proves which rules of X.680 a few types keep, and which they break. The function does nothing

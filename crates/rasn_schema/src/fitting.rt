@@ -1,6 +1,6 @@
 //! Which values are values of a type.
 ghost use Rattle.std.specs.Prelude.{◌≡◌, ◌⊎◌, Contains};
-ghost use Rattle.rasn_schema.specs.declared.types.LeafKind.TheVariants.{UtcTime, GeneralizedTime};
+ghost use Rattle.rasn_schema.specs.declared.types.LeafKind.TheVariants.{UtcTime, GeneralizedTime, Utf8, Universal, ObjectIdentifier, RelativeOid};
 ghost use Rattle.rasn_types.specs.Shapes.{IsIn, between};
 ghost use Rattle.rasn_types.specs.CharacterString.{AreAdmitted};
 ghost use Rattle.rasn_types.specs.BitString.{significant};
@@ -12,7 +12,9 @@ ghost use Rattle.rasn_schema.specs.Fitting.{IsNumber, NumberFits, OctetsFit, Bit
 
 use crate::fit::{elements_of, is_left_out, items_of};
 use crate::innermost::innermost_at;
+use crate::real::is_canonical_real;
 use crate::schema::Schema;
+use crate::time_text::{are_time_digits, is_time_text};
 use crate::type_id::TypeId;
 use crate::types::{Component, LeafKind, NamedNumber, Type};
 use crate::value::Value;
@@ -61,6 +63,10 @@ fn octets_fit(kind: LeafKind, octets: &[u8]) -> bool
         LeafKind::Visible => are_admitted(Alphabet::Visible, octets),
         LeafKind::Ia5 => are_admitted(Alphabet::Ia5, octets),
         LeafKind::AnyOctets => true,
+        LeafKind::Real => is_canonical_real(octets),
+        LeafKind::Time | LeafKind::Duration => is_time_text(octets),
+        LeafKind::TimeOfDay => are_time_digits(6, octets),
+        LeafKind::DateTime => are_time_digits(14, octets),
         _ => false,
     }
 }
@@ -95,9 +101,9 @@ pub fn leaf_fits(kind: LeafKind, value: &Value<'_>) -> bool
         Value::Integer(number) => number_fits(kind, number),
         Value::Bits(bits) => bits_fit(kind, bits),
         Value::Octets(octets) => octets_fit(kind, octets.as_slice()),
-        Value::Text(_) => matches!(kind, LeafKind::Utf8),
+        Value::Text(_) => is_text(kind),
         Value::Units(_) => matches!(kind, LeafKind::Bmp),
-        Value::Arcs(_) => matches!(kind, LeafKind::ObjectIdentifier),
+        Value::Arcs(_) => has_arcs(kind),
         Value::Instant(_) => is_time(kind),
         Value::Day(_) => matches!(kind, LeafKind::Date),
         Value::Items(_) => false,
@@ -105,6 +111,20 @@ pub fn leaf_fits(kind: LeafKind, value: &Value<'_>) -> bool
         Value::Chosen(_, _) => false,
         Value::Absent => false,
     }
+}
+
+/// Returns whether the kind is one of the two whose values are texts.
+fn is_text(kind: LeafKind) -> bool
+    ensures { IsWhether result ((kind ≡ Utf8) ⊎ (kind ≡ Universal)) }
+{
+    matches!(kind, LeafKind::Utf8 | LeafKind::Universal)
+}
+
+/// Returns whether the kind is one of the two whose values are arcs.
+fn has_arcs(kind: LeafKind) -> bool
+    ensures { IsWhether result ((kind ≡ ObjectIdentifier) ⊎ (kind ≡ RelativeOid)) }
+{
+    matches!(kind, LeafKind::ObjectIdentifier | LeafKind::RelativeOid)
 }
 
 /// Returns whether the kind is one of the two whose values are instants.

@@ -1,6 +1,9 @@
 //! Values as text, in the value notation of X.680 as far as the type or its names are known.
 use crate::named::name_of_number;
+use crate::real::Real;
+use crate::relative::RelativeOid;
 use crate::schema::Schema;
+use crate::time_text::TimeDigits;
 use crate::types::{LeafKind, NamedNumber, Type};
 use crate::value::Value;
 use crate::view::{View, part_name, part_type, untagged};
@@ -127,6 +130,7 @@ fn is_text(ty: Option<&Type>) -> bool {
     match ty {
         Some(Type::Leaf { kind, .. }) => match kind {
             LeafKind::Numeric | LeafKind::Printable | LeafKind::Visible | LeafKind::Ia5 => true,
+            LeafKind::Time | LeafKind::Duration => true,
             _ => false,
         },
         _ => false,
@@ -141,26 +145,66 @@ fn is_open_null(octets: &[u8], ty: Option<&Type>) -> bool {
     }
 }
 
-/// Writes octets in hexadecimal, or as characters if the type says so. A NULL as the value of an
-/// open type is written as such (X.681 14.6).
+/// Returns the kind of a type whose values hold no others.
+fn kind_of(ty: Option<&Type>) -> Option<LeafKind> {
+    match ty {
+        Some(Type::Leaf { kind, .. }) => Some(*kind),
+        _ => None,
+    }
+}
+
+/// Writes octets in hexadecimal, or as the type says. A NULL as the value of an open type is written
+/// as such (X.681 14.6).
 fn write_octets<W: fmt::Write>(
     f: &mut fmt::Formatter<W>,
     octets: &[u8],
     ty: Option<&Type>,
 ) -> fmt::Result {
     if is_text(ty) {
-        write_characters(f, octets)
-    } else if is_open_null(octets, ty) {
-        f.write_str("NULL : NULL")
-    } else {
-        write!(f, "'{}'H", Hexadecimal::new(octets))
+        return write_characters(f, octets);
     }
+    if is_open_null(octets, ty) {
+        return f.write_str("NULL : NULL");
+    }
+    match kind_of(ty) {
+        Some(LeafKind::Real) => write_real(f, octets),
+        Some(LeafKind::TimeOfDay | LeafKind::DateTime) => write_time(f, octets),
+        _ => write!(f, "'{}'H", Hexadecimal::new(octets)),
+    }
+}
+
+/// Writes the value of a REAL with these contents octets, or octets that are none in hexadecimal.
+fn write_real<W: fmt::Write>(f: &mut fmt::Formatter<W>, octets: &[u8]) -> fmt::Result {
+    match Real::of_contents(octets) {
+        Some(real) => write!(f, "{real}"),
+        None => write!(f, "'{}'H", Hexadecimal::new(octets)),
+    }
+}
+
+/// Writes the digits of a TIME-OF-DAY or a DATE-TIME in quotes, as value notation has them: with
+/// hyphens, colons and T between them (X.680 38.4).
+fn write_time<W: fmt::Write>(f: &mut fmt::Formatter<W>, digits: &[u8]) -> fmt::Result {
+    let text = TimeDigits { digits };
+    write!(f, "\"{text}\"")
 }
 
 /// Writes the arcs of an OBJECT IDENTIFIER in braces (X.680 32.3).
 fn write_arcs<W: fmt::Write>(f: &mut fmt::Formatter<W>, arcs: &[u32]) -> fmt::Result {
     f.write_char('{')?;
     for arc in arcs {
+        write!(f, " {arc}")?;
+    }
+    f.write_str(" }")
+}
+
+/// Writes the arcs of a RELATIVE-OID in braces (X.680 33.3).
+fn write_relative<W: fmt::Write>(
+    f: &mut fmt::Formatter<W>,
+    relative: RelativeOid<'_>,
+) -> fmt::Result {
+    let first = relative.first();
+    write!(f, "{{ {first}")?;
+    for arc in relative.others() {
         write!(f, " {arc}")?;
     }
     f.write_str(" }")
@@ -196,7 +240,11 @@ fn write_value<W: fmt::Write>(
         Value::Octets(octets) => write_octets(f, octets.as_slice(), ty),
         Value::Text(text) => write_text(f, text.as_str()),
         Value::Units(units) => write_units(f, units),
-        Value::Arcs(arcs) => write_arcs(f, arcs.arcs()),
+        Value::Arcs(arcs) => if kind_of(ty) == Some(LeafKind::RelativeOid) {
+            write_relative(f, RelativeOid { held: arcs })
+        } else {
+            write_arcs(f, arcs.arcs())
+        },
         Value::Instant(time) => write!(f, "\"{time}\""),
         Value::Day(date) => write!(f, "\"{date}\""),
         Value::Items(values) => write_values(f, values.as_slice(), schema, ty),

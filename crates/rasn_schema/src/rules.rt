@@ -35,6 +35,8 @@ fn is_bit_free(kind: LeafKind, tag: Tag) -> bool
         LeafKind::Signed32 | LeafKind::Signed64 | LeafKind::Unsigned32 | LeafKind::Unsigned64 => {
             true
         }
+        LeafKind::RelativeOid | LeafKind::Real | LeafKind::Time | LeafKind::Duration => true,
+        LeafKind::TimeOfDay | LeafKind::DateTime => true,
         _ => !is_always_constructed(tag),
     }
 }

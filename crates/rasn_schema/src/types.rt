@@ -57,6 +57,20 @@ pub enum LeafKind {
     GeneralizedTime,
     /// A DATE.
     Date,
+    /// A UniversalString (X.690 8.23.7).
+    Universal,
+    /// A RELATIVE-OID (X.690 8.20).
+    RelativeOid,
+    /// A REAL (X.690 8.5, 11.3).
+    Real,
+    /// A TIME, the characters of which are checked alone (X.690 8.26).
+    Time,
+    /// A DURATION, the characters of which are checked alone.
+    Duration,
+    /// A TIME-OF-DAY: six digits.
+    TimeOfDay,
+    /// A DATE-TIME: fourteen digits.
+    DateTime,
 }
 
 /// The number and the names that a kind of leaf has.
@@ -75,7 +89,8 @@ pub struct KindNames {
 
 impl LeafKind {
     /// Returns the number of the universal tag of a kind, its notation and its type in Rattle. A
-    /// string of any octets has those of a GeneralString.
+    /// string of any octets has those of a GeneralString. The kinds for which there is no type in
+    /// Rattle have the one that holds their octets.
     pub fn names(self) -> KindNames
         ensures number { result.number ≡ (names_of self).number }
         ensures notation { result.notation.now ≡ (names_of self).notation }
@@ -105,6 +120,13 @@ impl LeafKind {
             LeafKind::UtcTime => row(23, "UTCTime", "UtcTime"),
             LeafKind::GeneralizedTime => row(24, "GeneralizedTime", "GeneralizedTime"),
             LeafKind::Date => row(31, "DATE", "Date"),
+            LeafKind::Universal => row(28, "UniversalString", "GeneralString"),
+            LeafKind::RelativeOid => row(13, "RELATIVE-OID", "OctetString"),
+            LeafKind::Real => row(9, "REAL", "OctetString"),
+            LeafKind::Time => row(14, "TIME", "VisibleString"),
+            LeafKind::Duration => row(34, "DURATION", "VisibleString"),
+            LeafKind::TimeOfDay => row(32, "TIME-OF-DAY", "VisibleString"),
+            LeafKind::DateTime => row(33, "DATE-TIME", "VisibleString"),
         }
     }
 }

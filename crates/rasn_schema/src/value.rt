@@ -23,13 +23,15 @@ pub enum Value<'input> {
     Integer(Integer),
     /// The bits of a BIT STRING. If they have names, there are no trailing 0 bits.
     Bits(CowBits<'input>),
-    /// The octets of an OCTET STRING, of a string whose characters are octets, or of an open type.
+    /// The octets of an OCTET STRING, of a string whose characters are octets, or of an open type,
+    /// and the contents octets of a time of X.680 38 or, as canonical rules have them, of a REAL.
     Octets(CowSlice<'input, u8>),
-    /// The characters of a UTF8String.
+    /// The characters of a UTF8String or a UniversalString.
     Text(CowStr<'input>),
     /// The units of a BMPString.
     Units(BmpString),
-    /// The arcs of an OBJECT IDENTIFIER.
+    /// The arcs of an OBJECT IDENTIFIER, or those that hold the arcs of a RELATIVE-OID: see
+    /// [`RelativeOid`](crate::RelativeOid).
     Arcs(ObjectIdentifier),
     /// The instant of a UTCTime or a GeneralizedTime.
     Instant(GeneralizedTime),

@@ -16,7 +16,7 @@ use Rattle.rasn_schema.specs.declared.schema.Schema.{Schema}
 use Rattle.rasn_schema.specs.declared.type_id.TypeId.{TypeId}
 use Rattle.rasn_schema.specs.declared.named.TypeName.{TypeName}
 use Rattle.rasn_schema.specs.declared.types.LeafKind.{LeafKind}
-use Rattle.rasn_schema.specs.declared.types.LeafKind.TheVariants.{Boolean as BooleanKind, Null as NullKind, ObjectIdentifier, BitString, NamedBits, OctetString, FixedOctetString, Integer as IntegerKind, Signed32, Signed64, Unsigned32, Unsigned64, Numeric, Printable, Visible, Ia5, AnyOctets, Bmp, Utf8, UtcTime, GeneralizedTime, Date}
+use Rattle.rasn_schema.specs.declared.types.LeafKind.TheVariants.{Boolean as BooleanKind, Null as NullKind, ObjectIdentifier, BitString, NamedBits, OctetString, FixedOctetString, Integer as IntegerKind, Signed32, Signed64, Unsigned32, Unsigned64, Numeric, Printable, Visible, Ia5, AnyOctets, Bmp, Utf8, UtcTime, GeneralizedTime, Date, Universal, RelativeOid, Real, Time, Duration, TimeOfDay, DateTime}
 use Rattle.rasn_schema.specs.declared.types.Component.{Component}
 use Rattle.rasn_schema.specs.declared.types.Presence.{Presence}
 use Rattle.rasn_schema.specs.declared.types.Presence.TheVariants.{Required, Optional, Addition, Default}
@@ -109,6 +109,13 @@ kind_free Utf8 = tt
 kind_free UtcTime = tt
 kind_free GeneralizedTime = tt
 kind_free Date = tt
+kind_free Universal = tt
+kind_free RelativeOid = tt
+kind_free Real = tt
+kind_free Time = tt
+kind_free Duration = tt
+kind_free TimeOfDay = tt
+kind_free DateTime = tt
 
 range_free : {T : Type 0} (f : T → Tree) → ((x : T) → SetFree (f x)) → (b : Bounded T) → SetFree (range_tree f b)
 range_free f h Free = tt

@@ -6,7 +6,7 @@ use Rattle.rasn_types.specs.Shapes.{Tree, number, numbers, bits, instant, on_day
 use Rattle.rasn_types.specs.CharacterString.{units_of}
 use Rattle.rasn_types.specs.Trees.{bool_tree, option_tree, list_tree}
 use Rattle.rasn_schema_octets.specs.declared.kind.PlainKind.{PlainKind}
-use Rattle.rasn_schema_octets.specs.declared.kind.PlainKind.TheVariants.{Boolean, Null, ObjectIdentifier, BitString, NamedBits, OctetString, Integer, Signed32, Signed64, Unsigned32, Unsigned64, Numeric, Printable, Visible, Ia5, AnyOctets, Bmp, Utf8, UtcTime, GeneralizedTime, Date}
+use Rattle.rasn_schema_octets.specs.declared.kind.PlainKind.TheVariants.{Boolean, Null, ObjectIdentifier, BitString, NamedBits, OctetString, Integer, Signed32, Signed64, Unsigned32, Unsigned64, Numeric, Printable, Visible, Ia5, AnyOctets, Bmp, Utf8, UtcTime, GeneralizedTime, Date, Universal, RelativeOid, Real, Time, Duration, TimeOfDay, DateTime}
 use Rattle.rasn_schema_octets.specs.declared.name.NameForm.{NameForm}
 use Rattle.rasn_schema_octets.specs.declared.name.NumberForm.{NumberForm}
 use Rattle.rasn_schema_octets.specs.declared.node.NodeForm.{NodeForm}
@@ -50,6 +50,13 @@ plain_number Utf8 = pos 17
 plain_number UtcTime = pos 18
 plain_number GeneralizedTime = pos 19
 plain_number Date = pos 20
+plain_number Universal = pos 21
+plain_number RelativeOid = pos 22
+plain_number Real = pos 23
+plain_number Time = pos 24
+plain_number Duration = pos 25
+plain_number TimeOfDay = pos 26
+plain_number DateTime = pos 27
 
 abbrev pub name_form_tree : NameForm → Tree
 name_form_tree f = items (text_tree (string_bytes f.name) ∷ index_tree f.type_id ∷ [])

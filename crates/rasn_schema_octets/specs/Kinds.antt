@@ -2,7 +2,7 @@
 use Rattle.std.specs.Prelude.{ℕ, pos}
 use Rattle.rasn_types.specs.Shapes.{Tree, number, chosen}
 use Rattle.rasn_schema.specs.declared.types.LeafKind.{LeafKind}
-use Rattle.rasn_schema.specs.declared.types.LeafKind.TheVariants.{Boolean, Null, ObjectIdentifier, BitString, NamedBits, OctetString, FixedOctetString, Integer, Signed32, Signed64, Unsigned32, Unsigned64, Numeric, Printable, Visible, Ia5, AnyOctets, Bmp, Utf8, UtcTime, GeneralizedTime, Date}
+use Rattle.rasn_schema.specs.declared.types.LeafKind.TheVariants.{Boolean, Null, ObjectIdentifier, BitString, NamedBits, OctetString, FixedOctetString, Integer, Signed32, Signed64, Unsigned32, Unsigned64, Numeric, Printable, Visible, Ia5, AnyOctets, Bmp, Utf8, UtcTime, GeneralizedTime, Date, Universal, RelativeOid, Real, Time, Duration, TimeOfDay, DateTime}
 
 abbrev pub plain : ℕ → Tree
 plain n = chosen 0 (number (pos n))
@@ -30,3 +30,10 @@ kind_tree Utf8 = plain 17
 kind_tree UtcTime = plain 18
 kind_tree GeneralizedTime = plain 19
 kind_tree Date = plain 20
+kind_tree Universal = plain 21
+kind_tree RelativeOid = plain 22
+kind_tree Real = plain 23
+kind_tree Time = plain 24
+kind_tree Duration = plain 25
+kind_tree TimeOfDay = plain 26
+kind_tree DateTime = plain 27

@@ -49,7 +49,7 @@ tag_shape = choice tag_alternatives
 
 abbrev pub plain_kinds : List ℤ
 plain_kinds = pos 0 ∷ pos 1 ∷ pos 2 ∷ pos 3 ∷ pos 4 ∷ pos 5 ∷ pos 6 ∷ pos 7 ∷ pos 8 ∷ pos 9 ∷ pos 10 ∷ pos 11 ∷ pos 12 ∷ pos 13 ∷ pos 14 ∷ pos 15
-    ∷ pos 16 ∷ pos 17 ∷ pos 18 ∷ pos 19 ∷ pos 20 ∷ []
+    ∷ pos 16 ∷ pos 17 ∷ pos 18 ∷ pos 19 ∷ pos 20 ∷ pos 21 ∷ pos 22 ∷ pos 23 ∷ pos 24 ∷ pos 25 ∷ pos 26 ∷ pos 27 ∷ []
 
 abbrev pub kind_alternatives : Parts
 kind_alternatives = part required (leaf (enumerated plain_kinds) (in_universal 10) unconstrained) (part required index_shape none)

@@ -35,6 +35,13 @@ pub enum PlainKind {
     UtcTime,
     GeneralizedTime,
     Date,
+    Universal,
+    RelativeOid,
+    Real,
+    Time,
+    Duration,
+    TimeOfDay,
+    DateTime,
 }
 
 impl AsnType for PlainKind {
@@ -100,6 +107,13 @@ impl Enumerated for PlainKind {
             PlainKind::UtcTime => 18,
             PlainKind::GeneralizedTime => 19,
             PlainKind::Date => 20,
+            PlainKind::Universal => 21,
+            PlainKind::RelativeOid => 22,
+            PlainKind::Real => 23,
+            PlainKind::Time => 24,
+            PlainKind::Duration => 25,
+            PlainKind::TimeOfDay => 26,
+            PlainKind::DateTime => 27,
         }
     }
 
@@ -126,6 +140,13 @@ impl Enumerated for PlainKind {
             18 => Some(PlainKind::UtcTime),
             19 => Some(PlainKind::GeneralizedTime),
             20 => Some(PlainKind::Date),
+            21 => Some(PlainKind::Universal),
+            22 => Some(PlainKind::RelativeOid),
+            23 => Some(PlainKind::Real),
+            24 => Some(PlainKind::Time),
+            25 => Some(PlainKind::Duration),
+            26 => Some(PlainKind::TimeOfDay),
+            27 => Some(PlainKind::DateTime),
             _ => None,
         }
     }
@@ -219,6 +240,13 @@ fn kind_of(plain: PlainKind) -> LeafKind
         PlainKind::UtcTime => LeafKind::UtcTime,
         PlainKind::GeneralizedTime => LeafKind::GeneralizedTime,
         PlainKind::Date => LeafKind::Date,
+        PlainKind::Universal => LeafKind::Universal,
+        PlainKind::RelativeOid => LeafKind::RelativeOid,
+        PlainKind::Real => LeafKind::Real,
+        PlainKind::Time => LeafKind::Time,
+        PlainKind::Duration => LeafKind::Duration,
+        PlainKind::TimeOfDay => LeafKind::TimeOfDay,
+        PlainKind::DateTime => LeafKind::DateTime,
     }
 }
 
@@ -249,6 +277,13 @@ fn plain_of(kind: LeafKind) -> Result<PlainKind, usize>
         LeafKind::UtcTime => Ok(PlainKind::UtcTime),
         LeafKind::GeneralizedTime => Ok(PlainKind::GeneralizedTime),
         LeafKind::Date => Ok(PlainKind::Date),
+        LeafKind::Universal => Ok(PlainKind::Universal),
+        LeafKind::RelativeOid => Ok(PlainKind::RelativeOid),
+        LeafKind::Real => Ok(PlainKind::Real),
+        LeafKind::Time => Ok(PlainKind::Time),
+        LeafKind::Duration => Ok(PlainKind::Duration),
+        LeafKind::TimeOfDay => Ok(PlainKind::TimeOfDay),
+        LeafKind::DateTime => Ok(PlainKind::DateTime),
     }
 }
 

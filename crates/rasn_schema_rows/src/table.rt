@@ -1,5 +1,6 @@
 //! The types of the rows.
 
+use rasn_schema::LeafKind;
 use rasn_schema::constants::prelude::*;
 
 const ATTRIBUTE: &[StaticComponent] = &[("type", Required, 2), ("value", Required, 9)];
@@ -57,6 +58,7 @@ pub const TYPES: &[StaticType] = &[
     Sequence(Tag::SEQUENCE, EXTENSIBLE),
     Choice("Reply", &[("flag", 0), ("...", 9)]),
     Set("ExtensibleSet", Tag::SET, EXTENSIBLE_SET),
+    Leaf(LeafKind::Real, tag!(Universal, 9), NONE, &[]),
 ];
 
 /// The names of the types that rows have.
@@ -84,4 +86,5 @@ pub const NAMES: &[(&str, usize)] = &[
     ("Extensible", 23),
     ("Reply", 24),
     ("ExtensibleSet", 25),
+    ("Real", 26),
 ];

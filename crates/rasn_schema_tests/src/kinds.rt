@@ -21,6 +21,13 @@ const KINDS: &[(LeafKind, u32, &str)] = &[
     (LeafKind::AnyOctets, 27, "GeneralString"),
     (LeafKind::Bmp, 30, "BMPString"),
     (LeafKind::Date, 31, "DATE"),
+    (LeafKind::Universal, 28, "UniversalString"),
+    (LeafKind::RelativeOid, 13, "RELATIVE-OID"),
+    (LeafKind::Real, 9, "REAL"),
+    (LeafKind::Time, 14, "TIME"),
+    (LeafKind::Duration, 34, "DURATION"),
+    (LeafKind::TimeOfDay, 32, "TIME-OF-DAY"),
+    (LeafKind::DateTime, 33, "DATE-TIME"),
 ];
 
 fn are_named_so() -> bool {

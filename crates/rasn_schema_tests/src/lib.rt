@@ -26,6 +26,8 @@ mod sizes;
 #[cfg(test)]
 mod small_schemas;
 #[cfg(test)]
+mod times;
+#[cfg(test)]
 mod types;
 #[cfg(test)]
 mod values;

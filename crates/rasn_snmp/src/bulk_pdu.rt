@@ -1,3 +1,4 @@
+// Written by `soqavise generate` from the ASN.1 of SNMP: change that, and write it again.
 //! `BulkPDU ::= SEQUENCE`
 use crate::{Unsigned31, VarBindList};
 use rasn::prelude::*;

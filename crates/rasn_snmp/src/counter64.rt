@@ -1,3 +1,4 @@
+// Written by `soqavise generate` from the ASN.1 of SNMP: change that, and write it again.
 //! `Counter64 ::= [APPLICATION 6] IMPLICIT INTEGER (0..18446744073709551615)`
 use rasn::prelude::*;
 

@@ -1,3 +1,4 @@
+// Written by `soqavise generate` from the ASN.1 of SNMP: change that, and write it again.
 //! `HeaderData ::= SEQUENCE`
 use crate::{HeaderDataMsgFlags, HeaderDataMsgMaxSize, HeaderDataMsgSecurityModel, Unsigned31};
 use rasn::prelude::*;

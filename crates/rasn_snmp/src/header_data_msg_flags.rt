@@ -1,3 +1,4 @@
+// Written by `soqavise generate` from the ASN.1 of SNMP: change that, and write it again.
 //! `HeaderData-msgFlags ::= OCTET STRING (SIZE (1..1))`
 use rasn::prelude::*;
 

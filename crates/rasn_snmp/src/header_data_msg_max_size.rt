@@ -1,3 +1,4 @@
+// Written by `soqavise generate` from the ASN.1 of SNMP: change that, and write it again.
 //! `HeaderData-msgMaxSize ::= INTEGER (484..2147483647)`
 use rasn::prelude::*;
 

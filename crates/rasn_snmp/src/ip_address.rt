@@ -1,3 +1,4 @@
+// Written by `soqavise generate` from the ASN.1 of SNMP: change that, and write it again.
 //! `IpAddress ::= [APPLICATION 0] IMPLICIT OCTET STRING (SIZE (4..4))`
 use rasn::prelude::*;
 

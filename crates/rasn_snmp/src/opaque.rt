@@ -1,3 +1,4 @@
+// Written by `soqavise generate` from the ASN.1 of SNMP: change that, and write it again.
 //! `Opaque ::= [APPLICATION 4] IMPLICIT OCTET STRING`
 use rasn::prelude::*;
 

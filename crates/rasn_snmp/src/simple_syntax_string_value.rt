@@ -1,3 +1,4 @@
+// Written by `soqavise generate` from the ASN.1 of SNMP: change that, and write it again.
 //! `SimpleSyntax-string-value ::= OCTET STRING (SIZE (0..65535))`
 use rasn::prelude::*;
 

@@ -1,3 +1,4 @@
+// Written by `soqavise generate` from the ASN.1 of SNMP: change that, and write it again.
 //! `SNMPv3Message ::= SEQUENCE`
 use crate::{HeaderData, ScopedPduData, SnmpV3MessageMsgVersion};
 use rasn::prelude::*;

@@ -1,3 +1,4 @@
+// Written by `soqavise generate` from the ASN.1 of SNMP: change that, and write it again.
 //! `SNMPv3Message-msgVersion ::= INTEGER { snmpv3(3) } (0..2147483647)`
 use rasn::prelude::*;
 

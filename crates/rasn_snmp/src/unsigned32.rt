@@ -1,3 +1,4 @@
+// Written by `soqavise generate` from the ASN.1 of SNMP: change that, and write it again.
 //! `Unsigned32 ::= [APPLICATION 2] IMPLICIT INTEGER (0..4294967295)`
 use rasn::prelude::*;
 

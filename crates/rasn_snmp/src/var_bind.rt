@@ -1,3 +1,4 @@
+// Written by `soqavise generate` from the ASN.1 of SNMP: change that, and write it again.
 //! `VarBind ::= SEQUENCE`
 use crate::{ObjectName, VarBindValue};
 use rasn::prelude::*;

@@ -1,3 +1,4 @@
+// Written by `soqavise generate` from the ASN.1 of SNMP: change that, and write it again.
 //! `VarBindList ::= SEQUENCE (SIZE (0..2147483647)) OF VarBind`
 use crate::VarBind;
 use rasn::prelude::*;

@@ -1,3 +1,4 @@
+// Written by `soqavise generate` from the ASN.1 of SNMP: change that, and write it again.
 //! `VarBindValue ::= CHOICE`
 use crate::{
     Counter32, Counter64, IpAddress, Opaque, SimpleSyntaxStringValue, TimeTicks, Unsigned32,

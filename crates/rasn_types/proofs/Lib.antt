@@ -12,3 +12,4 @@ pub mod SortedSets
 pub mod Enumerated
 pub mod Dotted
 pub mod PaddedSize
+pub mod Reals

@@ -5,7 +5,7 @@ use Rattle.rasn_types.specs.Order.{IsLess, AreAscending}
 use Rattle.rasn_types.specs.Framing.{Frame, definite, indefinite, CompleteEncoding, CompleteEncodings}
 use Rattle.rasn_types.specs.Calendar.{Day, Stamp}
 use Rattle.rasn_types.specs.Time.{GeneralUtc, CanonicalUtc, GeneralGeneralized, CanonicalGeneralized, StrictGeneralized, DateText}
-use Rattle.rasn_types.specs.Shapes.{Tree, number, bits, numbers, instant, on_day, items, set_elements, absent, Kind, boolean, null, object_identifier, bit_string, named_bits, octet_string, integer, enumerated, fixed, numeric, printable, visible, ia5, any_octets, bmp, utf8, utc_time, generalized_time, date, Bound, Constraints, Admits, AdmitsPadded, Shape, leaf, any, prefix, choice, open_choice, option, seq, set, sorted_set, list, set_of, unknown, Parts, part, count, IsFirst, IsFirstOf, one_tag, sought_in, presences}
+use Rattle.rasn_types.specs.Shapes.{Tree, number, bits, numbers, instant, on_day, items, set_elements, absent, Kind, boolean, null, object_identifier, bit_string, named_bits, octet_string, integer, enumerated, fixed, numeric, printable, visible, ia5, any_octets, bmp, universal, utf8, real, time_text, time_digits, utc_time, generalized_time, date, Bound, Constraints, Admits, AdmitsPadded, Shape, leaf, any, prefix, choice, open_choice, option, seq, set, sorted_set, list, set_of, unknown, Parts, part, count, IsFirst, IsFirstOf, one_tag, sought_in, presences}
 use Rattle.rasn_types.specs.Shapes.Parts.{none}
 use Rattle.rasn_types.specs.declared.types.strings.alphabet.Alphabet.TheVariants.{Numeric, Printable, Visible, Ia5}
 use Rattle.rasn_types.specs.CharacterString.{AreAdmitted}
@@ -31,6 +31,18 @@ units [] us = us ≡ []
 units (a ∷ []) us = ⊥
 units (a ∷ b ∷ l) us = (vs : List ℕ) × (us ≡ (256 * a + b) ∷ vs) × units l vs
 
+-- The numbers of characters, each of four octets, the high octet first (8.23.7). None is that of a surrogate, and none is
+-- above 10FFFF (ISO/IEC 10646).
+abbrev pub IsCharacter : ℕ → Type 0
+IsCharacter n = (n < 55296) ⊎ ((57344 ≤ n) × (n < 1114112))
+
+abbrev pub quads : List ℕ → List ℕ → Type 0
+quads [] ns = ns ≡ []
+quads (a ∷ []) ns = ⊥
+quads (a ∷ b ∷ []) ns = ⊥
+quads (a ∷ b ∷ c ∷ []) ns = ⊥
+quads (a ∷ b ∷ c ∷ d ∷ l) ns = (n : ℕ) × (ms : List ℕ) × (n ≡ 256 * (256 * (256 * a + b) + c) + d) × IsCharacter n × (ns ≡ n ∷ ms) × quads l ms
+
 -- What all octets of a string mean.
 abbrev pub Text : Codec → Kind → List ℕ → Tree → Type 0
 Text rule octet_string l t = t ≡ numbers l
@@ -41,6 +53,7 @@ Text rule visible l t = (t ≡ numbers l) × AreAdmitted Visible l
 Text rule ia5 l t = (t ≡ numbers l) × AreAdmitted Ia5 l
 Text rule any_octets l t = t ≡ numbers l
 Text rule bmp l t = (us : List ℕ) × (t ≡ numbers us) × units l us
+Text rule universal l t = (ns : List ℕ) × (t ≡ numbers ns) × quads l ns
 Text rule utf8 l t = (t ≡ numbers (chars l)) × IsUtf8 l
 Text rule utc_time l t = (s : Stamp) × (t ≡ instant s.moment) × UtcText rule l s
 Text rule generalized_time l t = (s : Stamp) × (t ≡ instant s.moment) × GeneralizedText rule l s
@@ -70,6 +83,10 @@ measure visible = by_size
 measure ia5 = by_size
 measure any_octets = by_size
 measure bmp = by_size
+measure universal = by_size
+measure real = unmeasured
+measure time_text = unmeasured
+measure (time_digits n) = unmeasured
 measure utf8 = by_size
 
 -- The tree meets the constraints that apply to its kind (X.680 51).
@@ -92,6 +109,9 @@ abbrev pub family : Kind → Family
 family boolean = plain_family
 family null = plain_family
 family object_identifier = plain_family
+family real = plain_family
+family time_text = plain_family
+family (time_digits n) = plain_family
 family bit_string = bit_family
 family named_bits = named_family
 family (integer range) = plain_family
@@ -104,6 +124,7 @@ family visible = text_family
 family ia5 = text_family
 family any_octets = text_family
 family bmp = text_family
+family universal = text_family
 family utf8 = text_family
 family utc_time = text_family
 family generalized_time = text_family

@@ -51,13 +51,16 @@ abbrev pub IsIn : Interval → ℤ → Type 0
 IsIn every z = Unit {0}
 IsIn (between low high) z = (low ≤ℤ z) × (z ≤ℤ high)
 
--- `named_bits` is a BIT STRING whose bits have names: trailing 0 bits don't count (X.680 22.7).
+-- `named_bits` is a BIT STRING whose bits have names: trailing 0 bits don't count (X.680 22.7). `time_text` is the
+-- characters of a TIME or a DURATION, `time_digits` so many digits: those of a TIME-OF-DAY or a DATE-TIME (X.690 8.26).
 pub data Kind : Type 0 where
   boolean null object_identifier bit_string named_bits octet_string : Kind
   integer : Interval → Kind
   enumerated : List ℤ → Kind
   fixed : ℕ → Kind
-  numeric printable visible ia5 any_octets bmp utf8 : Kind
+  numeric printable visible ia5 any_octets bmp universal utf8 : Kind
+  real time_text : Kind
+  time_digits : ℕ → Kind
   utc_time generalized_time date : Kind
 
 abbrev pub IsWithin : {X : Type 0} → (X → X → Type 0) → Bounded X → X → Type 0

@@ -63,5 +63,6 @@ pub use strings::{
 pub use tag::{Class, Tag};
 pub use tag_types::{ApplicationTag, ContextTag, PrivateTag};
 pub use try_clone::TryClone;
+pub use twos_complement::{i64_octets, repeats_sign, shortest, signed_i128};
 pub use unknown::Unknown;
 pub use utc_time::UtcTime;

@@ -93,7 +93,14 @@ fn answer_to_words(
 ) -> Result<String, CallFault> {
     match command(alloc)?.try_get_matches_from(words) {
         Ok(matches) => answer_to_matches(alloc, read, &matches, input),
-        Err(error) => Ok(format!(in alloc; "{error}")?),
+        Err(error) => {
+            let status = if error.exit_code() == 0 {
+                ""
+            } else {
+                "status 2\n"
+            };
+            Ok(format!(in alloc; "{error}{status}")?)
+        }
     }
 }
 

@@ -5,7 +5,7 @@ use Rattle.rasn_types.specs.declared.types.codec.Codec.{Codec}
 use Rattle.rasn_types.specs.declared.types.codec.Codec.TheVariants.{Ber, Cer, Der}
 use Rattle.rasn_types.specs.declared.types.tag.Tag.{Tag}
 use Rattle.rasn_types.specs.Framing.{Frame, with_length, without_length, Extent, NextTag, CompleteEncoding, plain, closed, CompleteEncodings, none, one_more}
-use Rattle.rasn_types.specs.Shapes.{Tree, absent, Kind, boolean, null, object_identifier, integer, enumerated, octet_string, fixed, numeric, printable, visible, ia5, any_octets, bmp, utf8, utc_time, generalized_time, date, Shape, leaf, any, prefix, choice, open_choice, option, seq, set, sorted_set, list, set_of, unknown, Parts, part, count, IsFirstOf, presences, Presence, required, addition, optional_by, default_by, Sought, one_tag, any_of, sought_in, IsAlwaysPresent, AreAlwaysPresent}
+use Rattle.rasn_types.specs.Shapes.{Tree, absent, Kind, boolean, null, object_identifier, integer, enumerated, octet_string, fixed, numeric, printable, visible, ia5, any_octets, bmp, universal, utf8, real, time_text, time_digits, utc_time, generalized_time, date, Shape, leaf, any, prefix, choice, open_choice, option, seq, set, sorted_set, list, set_of, unknown, Parts, part, count, IsFirstOf, presences, Presence, required, addition, optional_by, default_by, Sought, one_tag, any_of, sought_in, IsAlwaysPresent, AreAlwaysPresent}
 use Rattle.rasn_types.specs.declared.types.constraints.Bound.{Bound}
 use Rattle.rasn_types.specs.Readings.{Reading, ReadsContents, definite_form, indefinite_form, ReadsMany, IsLeftOut, IsPresent, ReadsOptional, IsNoDefault, ReadsPart, ReadsInOrder, AllMissing, presences_in, HasRequired, ReadsSeq, ReadsChoice, ReadsSet, ReadsSortedSet}
 use Rattle.rasn_types.specs.Contents.{ReadsString, primitive, segments, closed_segments, ReadsSegments, ReadsBitSegment, OctetSegment, Contents, IsBool}
@@ -77,6 +77,9 @@ contents_in rule (integer range) l t h = h
 contents_in rule (enumerated known) l t h = h
 contents_in rule null l t h = h
 contents_in rule object_identifier l t h = h
+contents_in rule real l t (octets, e, (r, d, c, w)) = (octets, e, (r, d, c, λ z. absurd z))
+contents_in rule time_text l t h = h
+contents_in rule (time_digits n) l t h = h
 contents_in rule kind l t h = absurd h
 
 text_in : (rule : Codec) (kind : Kind) (l : List ℕ) (t : Tree) → Text rule kind l t → Text Ber kind l t
@@ -88,6 +91,7 @@ text_in rule visible l t h = h
 text_in rule ia5 l t h = h
 text_in rule any_octets l t h = h
 text_in rule bmp l t h = h
+text_in rule universal l t h = h
 text_in rule utf8 l t h = h
 text_in rule utc_time l t h = utc_in rule l t h
 text_in rule generalized_time l t h = generalized_in rule l t h

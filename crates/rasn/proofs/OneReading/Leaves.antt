@@ -5,13 +5,14 @@ use Rattle.rasn_types.specs.declared.types.codec.Codec.{Codec}
 use Rattle.rasn_types.specs.declared.types.codec.Codec.TheVariants.{Ber, Cer, Der}
 use Rattle.rasn_types.specs.declared.types.tag.Tag.{Tag}
 use Rattle.rasn_types.specs.Framing.{Extent, definite, indefinite, Frame, number_in}
-use Rattle.rasn_types.specs.Shapes.{Tree, number, bits, numbers, Kind, boolean, null, object_identifier, octet_string, integer, enumerated, fixed, numeric, printable, visible, ia5, any_octets, bmp, utf8, utc_time, generalized_time, date}
+use Rattle.rasn_types.specs.Shapes.{Tree, number, bits, numbers, Kind, boolean, null, object_identifier, octet_string, integer, enumerated, fixed, numeric, printable, visible, ia5, any_octets, bmp, universal, utf8, real, time_text, time_digits, utc_time, generalized_time, date}
 use Rattle.rasn_types.specs.declared.types.constraints.Constraints.{Constraints}
 use Rattle.rasn_types.specs.Contents.{IsBool, Contents, bits_of, joined_lists, BitSegment, ReadsBitSegment, OctetSegment, ReadsString, primitive, segments, closed_segments, ReadsSegments}
 use Rattle.rasn_types.specs.BitString.{significant}
-use Rattle.rasn_types.specs.Grammar.{Text, units, Family, plain_family, bit_family, named_family, text_family, family, ReadsIn, ReadsLeaf}
+use Rattle.rasn_types.specs.Grammar.{Text, units, quads, Family, plain_family, bit_family, named_family, text_family, family, ReadsIn, ReadsLeaf}
 use Rattle.rasn_types.proofs.Headers.Frames.{frame_one, split_one}
 use Rattle.rasn_de.proofs.Leaves.ObjectIdentifier.{identifier_one}
+use Rattle.rasn_types.proofs.Reals.{canonical_one}
 use Rattle.rasn.proofs.Time.Texts.{utc_one, generalized_one, date_one}
 use Rattle.rasn.proofs.OneReading.Joined.{IsOne}
 
@@ -35,12 +36,22 @@ contents_one rule (integer range) l t u h k = h.0 ∙ sym k.0
 contents_one rule (enumerated known) l t u h k = h.0 ∙ sym k.0
 contents_one rule null l t u h k = h.0 ∙ sym k.0
 contents_one rule object_identifier l t u h k = h.1 ∙ (ap numbers (identifier_one l h.0 k.0 h.2 k.2) ∙ sym k.1)
+contents_one rule real l t u h k = h.1 ∙ (ap numbers (canonical_one l h.0 k.0 h.2.0 k.2.0 h.2.1 k.2.1 h.2.2 k.2.2) ∙ sym k.1)
+contents_one rule time_text l t u h k = h.0 ∙ sym k.0
+contents_one rule (time_digits n) l t u h k = h.0 ∙ sym k.0
 contents_one rule kind l t u h k = absurd h
 
 pub units_one : (l a b : List ℕ) → units l a → units l b → a ≡ b
 units_one [] a b h k = cc
 units_one (x ∷ []) a b h k = absurd h
 units_one (x ∷ y ∷ l) a b h k = let e = units_one l h.0 k.0 h.2 k.2 in let p = h.1 in let q = k.1 in cc
+
+pub quads_one : (l a b : List ℕ) → quads l a → quads l b → a ≡ b
+quads_one [] a b h k = cc
+quads_one (w ∷ []) a b h k = absurd h
+quads_one (w ∷ x ∷ []) a b h k = absurd h
+quads_one (w ∷ x ∷ y ∷ []) a b h k = absurd h
+quads_one (w ∷ x ∷ y ∷ z ∷ l) a b h k = let e = quads_one l h.1 k.1 h.5 k.5 in let f = h.2 in let g = k.2 in let p = h.4 in let q = k.4 in cc
 
 text_one : (rule : Codec) (kind : Kind) (l : List ℕ) (t u : Tree) → Text rule kind l t → Text rule kind l u → t ≡ u
 text_one rule octet_string l t u h k = h ∙ sym k
@@ -51,6 +62,7 @@ text_one rule visible l t u h k = h.0 ∙ sym k.0
 text_one rule ia5 l t u h k = h.0 ∙ sym k.0
 text_one rule any_octets l t u h k = h ∙ sym k
 text_one rule bmp l t u h k = h.1 ∙ (ap numbers (units_one l h.0 k.0 h.2 k.2) ∙ sym k.1)
+text_one rule universal l t u h k = h.1 ∙ (ap numbers (quads_one l h.0 k.0 h.2 k.2) ∙ sym k.1)
 text_one rule utf8 l t u h k = h.0 ∙ sym k.0
 text_one rule utc_time l t u h k = utc_one rule l t u h k
 text_one rule generalized_time l t u h k = generalized_one rule l t u h k

@@ -5,7 +5,7 @@ use Rattle.rasn_types.specs.declared.types.codec.Codec.{Codec}
 use Rattle.rasn_types.specs.declared.types.codec.Codec.TheVariants.{Ber, Cer, Der}
 use Rattle.rasn_types.specs.declared.types.tag.Tag.{Tag}
 use Rattle.rasn_types.specs.Framing.{Frame, definite}
-use Rattle.rasn_types.specs.Shapes.{Tree, Kind, boolean, null, object_identifier, integer, enumerated, octet_string, fixed, numeric, printable, visible, ia5, any_octets, bmp, utf8, utc_time, generalized_time, date, bits}
+use Rattle.rasn_types.specs.Shapes.{Tree, Kind, boolean, null, object_identifier, integer, enumerated, octet_string, fixed, numeric, printable, visible, ia5, any_octets, bmp, universal, utf8, real, time_text, time_digits, utc_time, generalized_time, date, bits}
 use Rattle.rasn_types.specs.declared.types.constraints.Constraints.{Constraints}
 use Rattle.rasn_types.specs.Readings.{ReadsContents, definite_form, indefinite_form, ReadsMany}
 use Rattle.rasn_types.specs.Contents.{joined_lists, ReadsString, primitive, segments, closed_segments, ReadsBitSegment, OctetSegment, Contents, IsBool}
@@ -82,6 +82,7 @@ text_back rule visible l t c h = h
 text_back rule ia5 l t c h = h
 text_back rule any_octets l t c h = h
 text_back rule bmp l t c h = h
+text_back rule universal l t c h = h
 text_back rule utf8 l t c h = h
 text_back rule utc_time l t c h = utc_back rule l t c h
 text_back rule generalized_time l t c h = generalized_back rule l t c h
@@ -99,6 +100,9 @@ contents_der rule (integer range) l t h = h
 contents_der rule (enumerated known) l t h = h
 contents_der rule null l t h = h
 contents_der rule object_identifier l t h = h
+contents_der rule real l t (octets, e, (r, d, c, w)) = (octets, e, (r, d, c, λ z. w tt))
+contents_der rule time_text l t h = h
+contents_der rule (time_digits n) l t h = h
 contents_der rule kind l t h = absurd h
 
 in_back : (which : Family) (rule : Codec) (kind : Kind) (tag : Tag) → tag ≢ eoc → IsBitFree which tag → (depth : ℕ) (t : Tree) (b : List ℕ)

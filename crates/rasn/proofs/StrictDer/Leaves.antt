@@ -4,7 +4,7 @@ use Rattle.rasn_types.specs.Tags.{der_form, in_universal}
 use Rattle.rasn_types.specs.declared.types.codec.Codec.TheVariants.{Der}
 use Rattle.rasn_types.specs.declared.types.tag.Tag.{Tag}
 use Rattle.rasn_types.specs.Framing.{Frame, with_length, without_length, definite, indefinite, AreOctets}
-use Rattle.rasn_types.specs.Shapes.{Tree, bits, Kind, octet_string, fixed, numeric, printable, visible, ia5, any_octets, bmp, utf8, utc_time, generalized_time, date}
+use Rattle.rasn_types.specs.Shapes.{Tree, bits, Kind, octet_string, fixed, numeric, printable, visible, ia5, any_octets, bmp, universal, utf8, utc_time, generalized_time, date}
 use Rattle.rasn_types.specs.Contents.{ReadsString, primitive, segments, closed_segments, ReadsBitSegment, OctetSegment}
 use Rattle.rasn_types.specs.Grammar.{Family, plain_family, bit_family, named_family, text_family, ReadsIn, Text}
 use Rattle.rasn_types.specs.Bytes.{DefiniteForm, WritesIn, WritesText}
@@ -48,6 +48,7 @@ text_written visible l t h = h
 text_written ia5 l t h = h
 text_written any_octets l t h = h
 text_written bmp l t h = h
+text_written universal l t h = h
 text_written utf8 l t h = h
 text_written utc_time l t (s, e, h) = let w = utc_written l s h in (s.moment, e, w.0, w.1)
 text_written generalized_time l t (s, e, h) = let w = generalized_written l s h in (s.moment, e, w.0, w.1)

@@ -2,7 +2,7 @@
 use Rattle.std.proofs.Common.{◌≡◌, ℕ, suc, ◌-◌, ◌≢◌, inl, inr, List, [], ◌∷◌, ◌++◌, Bool, true, false, Some, None}
 use Rattle.rasn_types.specs.declared.types.codec.Codec.TheVariants.{Der}
 use Rattle.rasn_types.specs.declared.types.tag.Tag.{Tag}
-use Rattle.rasn_types.specs.Shapes.{Tree, items, IsSetTree, set_elements, absent, Kind, boolean, null, object_identifier, integer, enumerated, octet_string, fixed, numeric, printable, visible, ia5, any_octets, bmp, utf8, utc_time, generalized_time, date, Shape, leaf, any, prefix, choice, open_choice, option, seq, set, sorted_set, list, set_of, unknown, Parts, part, IsAlwaysPresent}
+use Rattle.rasn_types.specs.Shapes.{Tree, items, IsSetTree, set_elements, absent, Kind, boolean, null, object_identifier, integer, enumerated, octet_string, fixed, numeric, printable, visible, ia5, any_octets, bmp, universal, utf8, real, time_text, time_digits, utc_time, generalized_time, date, Shape, leaf, any, prefix, choice, open_choice, option, seq, set, sorted_set, list, set_of, unknown, Parts, part, IsAlwaysPresent}
 use Rattle.rasn_types.specs.Shapes.Parts.{none}
 use Rattle.rasn_types.specs.Readings.{ReadsContents, definite_form, indefinite_form, Reading, ReadsChoice}
 use Rattle.rasn_types.specs.Contents.{Contents}
@@ -20,6 +20,9 @@ contents_there (integer range) l t h e = let f = h.0 in cc
 contents_there (enumerated known) l t h e = let f = h.0 in cc
 contents_there null l t h e = let f = h.0 in cc
 contents_there object_identifier l t h e = let f = h.1 in cc
+contents_there real l t h e = let f = h.1 in cc
+contents_there time_text l t h e = let f = h.0 in cc
+contents_there (time_digits n) l t h e = let f = h.0 in cc
 contents_there kind l t h e = h
 
 text_there : (kind : Kind) (l : List ℕ) (t : Tree) → Text Der kind l t → t ≢ absent
@@ -31,6 +34,7 @@ text_there visible l t h e = let f = h.0 in cc
 text_there ia5 l t h e = let f = h.0 in cc
 text_there any_octets l t h e = cc
 text_there bmp l t h e = let f = h.1 in cc
+text_there universal l t h e = let f = h.1 in cc
 text_there utf8 l t h e = let f = h.0 in cc
 text_there utc_time l t h e = let f = h.1 in cc
 text_there generalized_time l t h e = let f = h.1 in cc

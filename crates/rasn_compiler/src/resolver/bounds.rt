@@ -237,6 +237,7 @@ fn read_end<'text>(parser: &mut Parser<'_, 'text>, open: &str) -> Option<End<'te
             digits,
         })),
         Ok(Value::Name { module, name }) => Some(End::At(Value::Name { module, name })),
+        Ok(Value::Field(field)) => Some(End::At(Value::Field(field))),
         _ => None,
     }
 }

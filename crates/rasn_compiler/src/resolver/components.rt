@@ -21,7 +21,7 @@ pub(crate) struct Components<'text> {
 
 /// How many components were seen of a list, and their names.
 #[derive(Drop)]
-struct Seen<'text> {
+pub(crate) struct Seen<'text> {
     within: Within,
     /// Whether they get automatic tags.
     is_automatic: bool,
@@ -35,7 +35,12 @@ struct Seen<'text> {
 
 impl<'text> Seen<'text> {
     /// Begins a list with so many components in its two roots.
-    fn new(alloc: Global, within: Within, is_automatic: bool, roots: u32) -> Seen<'text> {
+    pub(crate) fn new(
+        alloc: Global,
+        within: Within,
+        is_automatic: bool,
+        roots: u32,
+    ) -> Seen<'text> {
         Seen {
             within,
             is_automatic,
@@ -49,13 +54,13 @@ impl<'text> Seen<'text> {
 
     /// Returns whether an extension addition is next: between the markers, or after the only one
     /// (X.680 25.1).
-    fn is_addition(&self) -> bool {
+    pub(crate) fn is_addition(&self) -> bool {
         self.markers == 1
     }
 
     /// Counts a component and returns its automatic tag: first the roots are counted, then the
     /// additions (X.680 25.7, 29.2).
-    fn count(&mut self) -> Option<u32> {
+    pub(crate) fn count(&mut self) -> Option<u32> {
         let number = if self.is_addition() {
             let number = self.roots.saturating_add(self.additions);
             self.additions = self.additions.saturating_add(1);
@@ -74,7 +79,7 @@ impl<'text> Seen<'text> {
 
     /// Counts a marker, and returns the rule that it breaks: two are allowed, and nothing follows
     /// the second of a CHOICE (X.680 25.1, 29.1).
-    fn add_marker(&mut self) -> Option<&'static str> {
+    pub(crate) fn add_marker(&mut self) -> Option<&'static str> {
         self.markers = self.markers.saturating_add(1);
         if self.markers > 2 {
             return Some("more than two markers (X.680 25.1, 29.1)");
@@ -109,9 +114,16 @@ impl<'modules, 'text> Resolver<'modules, 'text> {
         let listed = self.listed(place, list, within, is_automatic)?;
         let roots = count_roots(listed.as_slice());
         let mut seen = Seen::new(self.alloc, within, is_automatic, roots);
+        let parts = self.parts(listed.as_slice(), &mut seen)?;
+        let is_extensible = match within {
+            Within::Choice => self.is_growing(place, list)?,
+            Within::Sequence | Within::Set => {
+                has_unknown(self.modules, place, listed.as_slice(), within)
+            }
+        };
         Ok(Components {
-            parts: self.parts(listed.as_slice(), &mut seen)?,
-            is_extensible: has_unknown(self.modules, place, listed.as_slice(), within),
+            parts,
+            is_extensible,
         })
     }
 
@@ -270,7 +282,7 @@ fn ends_with_additions(list: &[Listed<'_>], is_implied: bool) -> bool {
 }
 
 /// Returns how many components are outside the extension additions.
-fn count_roots(list: &[Listed<'_>]) -> u32 {
+pub(crate) fn count_roots(list: &[Listed<'_>]) -> u32 {
     let mut roots = 0u32;
     let mut markers = 0usize;
     for listed in list {

@@ -5,10 +5,10 @@ use crate::resolver::digits::{Bits, Digits, read_digits};
 use crate::resolver::enumerated::Enumeration;
 use crate::resolver::lookup::{MAX_NAMES, TOO_MANY_NAMES};
 use crate::resolver::node::Place;
-use crate::resolver::shape::{Resolver, is_open};
+use crate::resolver::shape::Resolver;
 use crate::resolver::value::Spelled;
 use crate::tree::{Base, Builtin, NamedNumber, TypeIndex, Value as Written};
-use rasn_schema::{NamedNumber as Numbered, Value, index_named};
+use rasn_schema::{NamedNumber as Numbered, Value, index_named, is_time_text, time_digits};
 use rasn_types::types::{BitString, CowBits, Integer};
 use std::alloc::{AllocError, Global};
 use std::borrow::{CowSlice, CowStr};
@@ -49,7 +49,6 @@ impl<'modules, 'text> Resolver<'modules, 'text> {
             Base::Enumerated(names) => self.enumerated_default(at, names.as_slice(), spelled),
             Base::BitString(names) => self.bits_default(at, base, names.as_slice(), spelled),
             Base::Builtin(Builtin::ObjectIdentifier) => self.identifier_default(spelled),
-            other if is_open(other) => self.open_default(spelled),
             _ => self.other_default(base, spelled),
         }
     }
@@ -81,7 +80,7 @@ impl<'modules, 'text> Resolver<'modules, 'text> {
 
     /// Returns the number of the name that a value is, or that it means.
     fn enumerated_value(
-        &self,
+        &mut self,
         numbers: &[Numbered],
         spelled: &Spelled<'text>,
     ) -> Result<Option<isize>, Halt<'text>> {
@@ -158,32 +157,37 @@ impl<'modules, 'text> Resolver<'modules, 'text> {
         self.broken(spelled.place, spelled.position, rule)
     }
 
-    /// Returns the value that a name means.
+    /// Returns the value that a name, or a field of an object, means.
     pub(crate) fn meant(
         &mut self,
         spelled: &Spelled<'text>,
     ) -> Result<Spelled<'text>, Halt<'text>> {
         let mut found = *spelled;
         for _ in 0..MAX_NAMES {
-            let Written::Name { name, .. } = found.value else {
-                return Ok(found);
-            };
-            self.step(
-                name.len().saturating_add(1),
-                spelled.place,
-                spelled.position,
-            )?;
-            found = self.named_once(&found)?;
+            match found.value {
+                Written::Name { .. } | Written::Field(_) => found = self.named_once(&found)?,
+                Written::Boolean(_)
+                | Written::Null
+                | Written::Number { .. }
+                | Written::Special(_)
+                | Written::Text(_)
+                | Written::Digits(_)
+                | Written::Unread(_) => return Ok(found),
+            }
         }
         Err(self.beyond(spelled.place, spelled.position, TOO_MANY_NAMES))
     }
 
-    /// Returns what a value means if it is the name of another.
-    fn named_once(&self, spelled: &Spelled<'text>) -> Result<Spelled<'text>, Halt<'text>> {
+    /// Returns what a value means if it is the name of another, or a field of an object.
+    fn named_once(&mut self, spelled: &Spelled<'text>) -> Result<Spelled<'text>, Halt<'text>> {
+        if let Written::Field(_) = spelled.value {
+            return Ok(self.field_value(spelled)?.value);
+        }
         let Written::Name { module, name } = spelled.value else {
             return Ok(*spelled);
         };
         let position = spelled.position;
+        self.step(name.len().saturating_add(1), spelled.place, position)?;
         let named = self.value_meant(spelled.place, module, name, position, "a value")?;
         Ok(Spelled {
             place: named.place,
@@ -257,7 +261,7 @@ fn bits_value(bits: BitString, have_names: bool) -> Value<'static> {
     }
 }
 
-/// Returns a string of characters (X.680 41).
+/// Returns a string of characters (X.680 41), or a time whose value notation is one (X.680 38.4).
 fn text_default(
     alloc: Global,
     builtin: Builtin,
@@ -265,7 +269,14 @@ fn text_default(
 ) -> Result<Option<Value<'static>>, AllocError> {
     let text = unquoted(alloc, quoted)?;
     match builtin {
-        Builtin::Utf8String => Ok(Some(Value::Text(CowStr::Owned(text)))),
+        Builtin::Utf8String | Builtin::UniversalString => {
+            Ok(Some(Value::Text(CowStr::Owned(text))))
+        }
+        Builtin::TimeOfDay => Ok(octets_value(time_digits(alloc, 6, text.as_str())?)),
+        Builtin::DateTime => Ok(octets_value(time_digits(alloc, 14, text.as_str())?)),
+        Builtin::Time | Builtin::Duration if is_time_text(text.as_str().as_bytes()) => {
+            Ok(octets_value(Some(text.into_bytes())))
+        }
         Builtin::NumericString
         | Builtin::PrintableString
         | Builtin::VisibleString
@@ -273,6 +284,11 @@ fn text_default(
             if text.is_ascii() => { Ok(Some(Value::Octets(CowSlice::Owned(text.into_bytes())))) }
         _ => Ok(None),
     }
+}
+
+/// Returns octets as a value, if there are some.
+fn octets_value(octets: Option<Vec<u8>>) -> Option<Value<'static>> {
+    octets.map(|octets| Value::Octets(CowSlice::Owned(octets)))
 }
 
 /// Returns a text without its quotation marks, of which two within it are one (X.680 12.14).

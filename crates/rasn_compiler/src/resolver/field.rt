@@ -8,7 +8,7 @@ use crate::resolver::node::Place;
 use crate::resolver::reference::{Next, steps_of, written_name};
 use crate::resolver::shape::Resolver;
 use crate::resolver::value::alternative_named;
-use crate::tree::{Actual, Assigned, Base, Component, Field, Given, TypeIndex};
+use crate::tree::{Actual, Assigned, Base, Class, Component, Field, Given, TypeIndex};
 
 impl<'modules, 'text> Resolver<'modules, 'text> {
     /// Returns the type of a class's field, or None if any type may be there (X.681 14.2). The
@@ -26,9 +26,9 @@ impl<'modules, 'text> Resolver<'modules, 'text> {
             let Some(class) = of else {
                 return Err(self.expected(place, position, "a field of objects"));
             };
-            let (found, fields) = self.class_of(at, class.0, position)?;
-            self.step(fields.len(), place, position)?;
-            let Some(field) = field_named(fields, name) else {
+            let (found, class) = self.class_of(at, class.0, position)?;
+            self.step(class.fields.len(), place, position)?;
+            let Some(field) = field_named(class.fields.as_slice(), name) else {
                 return Err(self.undefined(place, position, name));
             };
             at = found;
@@ -40,13 +40,13 @@ impl<'modules, 'text> Resolver<'modules, 'text> {
         }
     }
 
-    /// Returns the fields of a class, following references to it (X.681 9.2).
-    fn class_of(
+    /// Returns a class, following references to it (X.681 9.2).
+    pub(crate) fn class_of(
         &mut self,
         place: Place,
         index: usize,
         position: Position,
-    ) -> Result<(Place, &'modules [Field<'text>]), Halt<'text>> {
+    ) -> Result<(Place, &'modules Class<'text>), Halt<'text>> {
         let modules = self.modules;
         let mut at = place;
         let mut index = index;
@@ -54,8 +54,8 @@ impl<'modules, 'text> Resolver<'modules, 'text> {
         for _ in 0..MAX_NAMES {
             let ty = modules.type_at(at.module, index)?;
             self.step(steps_of(ty), place, position)?;
-            if let Base::Class(fields) = &ty.base {
-                return Ok((at, fields.as_slice()));
+            if let Base::Class(class) = &ty.base {
+                return Ok((at, class));
             }
             let Base::Reference {
                 module,
@@ -89,7 +89,7 @@ impl<'modules, 'text> Resolver<'modules, 'text> {
             Meant::Assigned(module, assignment) => (module, assignment),
         };
         let index = match assignment.assigned {
-            Assigned::Class { fields, .. } => fields.0,
+            Assigned::Class { fields } => fields.0,
             Assigned::Type(of) => of.0,
             Assigned::Value { .. } | Assigned::Values { .. } => {
                 let what = "the type of an object's field";
@@ -182,7 +182,7 @@ impl<'modules, 'text> Resolver<'modules, 'text> {
 
 /// Returns the automatic tag of the alternative with this index, if those of its CHOICE have such
 /// (X.680 29.2).
-fn automatic_tag(is_automatic: bool, index: usize) -> Option<u32> {
+pub(crate) fn automatic_tag(is_automatic: bool, index: usize) -> Option<u32> {
     if is_automatic {
         u32::try_from(index).ok()
     } else {
@@ -191,7 +191,7 @@ fn automatic_tag(is_automatic: bool, index: usize) -> Option<u32> {
 }
 
 /// Returns the field of this name.
-fn field_named<'text>(fields: &[Field<'text>], name: &str) -> Option<Field<'text>> {
+pub(crate) fn field_named<'text>(fields: &[Field<'text>], name: &str) -> Option<Field<'text>> {
     for field in fields {
         if field.name == name {
             return Some(*field);

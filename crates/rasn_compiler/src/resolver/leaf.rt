@@ -9,8 +9,7 @@ pub(crate) enum Plain {
     Leaf(LeafKind),
     /// A string of any octets whose universal tag has this number.
     Octets(u32),
-    /// A leaf of this kind whose universal tag has this number: what its contents mean isn't
-    /// checked.
+    /// A leaf of this kind whose universal tag has this number: only its characters are checked.
     Unparsed(LeafKind, u32),
     /// Any constructed value with the type's tag: its contents aren't looked into. The universal
     /// one has this number.
@@ -19,9 +18,9 @@ pub(crate) enum Plain {
     Open,
 }
 
-/// Returns what a schema has for a type that reserved words name (X.680 table 1, table 8). The
-/// contents of a REAL and of a RELATIVE-OID are octets, those of times and of resource identifiers
-/// are characters; all are primitive (X.690 8.5, 8.20, 8.21, 8.22, 8.26).
+/// Returns what a schema has for a type that reserved words name (X.680 table 1, table 8). Of the
+/// times of X.680 38 except DATE, and of resource identifiers, only the characters are checked
+/// (X.690 8.21, 8.22, 8.26).
 pub(crate) fn plain_type(builtin: Builtin) -> Plain {
     match builtin {
         Builtin::Any => Plain::Open,
@@ -31,11 +30,11 @@ pub(crate) fn plain_type(builtin: Builtin) -> Plain {
         Builtin::ObjectIdentifier => Plain::Leaf(LeafKind::ObjectIdentifier),
         Builtin::ObjectDescriptor => Plain::Octets(7),
         Builtin::External => Plain::Unseen(8),
-        Builtin::Real => Plain::Unparsed(LeafKind::OctetString, 9),
+        Builtin::Real => Plain::Leaf(LeafKind::Real),
         Builtin::EmbeddedPdv => Plain::Unseen(11),
         Builtin::Utf8String => Plain::Leaf(LeafKind::Utf8),
-        Builtin::RelativeObjectIdentifier => Plain::Unparsed(LeafKind::OctetString, 13),
-        Builtin::Time => Plain::Unparsed(LeafKind::Visible, 14),
+        Builtin::RelativeObjectIdentifier => Plain::Leaf(LeafKind::RelativeOid),
+        Builtin::Time => Plain::Unparsed(LeafKind::Time, 14),
         Builtin::NumericString => Plain::Leaf(LeafKind::Numeric),
         Builtin::PrintableString => Plain::Leaf(LeafKind::Printable),
         Builtin::TeletexString => Plain::Octets(20),
@@ -46,13 +45,13 @@ pub(crate) fn plain_type(builtin: Builtin) -> Plain {
         Builtin::GraphicString => Plain::Octets(25),
         Builtin::VisibleString => Plain::Leaf(LeafKind::Visible),
         Builtin::GeneralString => Plain::Octets(27),
-        Builtin::UniversalString => Plain::Unparsed(LeafKind::AnyOctets, 28),
+        Builtin::UniversalString => Plain::Leaf(LeafKind::Universal),
         Builtin::CharacterString => Plain::Unseen(29),
         Builtin::BmpString => Plain::Leaf(LeafKind::Bmp),
         Builtin::Date => Plain::Leaf(LeafKind::Date),
-        Builtin::TimeOfDay => Plain::Unparsed(LeafKind::Visible, 32),
-        Builtin::DateTime => Plain::Unparsed(LeafKind::Visible, 33),
-        Builtin::Duration => Plain::Unparsed(LeafKind::Visible, 34),
+        Builtin::TimeOfDay => Plain::Unparsed(LeafKind::TimeOfDay, 32),
+        Builtin::DateTime => Plain::Unparsed(LeafKind::DateTime, 33),
+        Builtin::Duration => Plain::Unparsed(LeafKind::Duration, 34),
         Builtin::ObjectIdentifierIri => Plain::Unparsed(LeafKind::Utf8, 35),
         Builtin::RelativeObjectIdentifierIri => Plain::Unparsed(LeafKind::Utf8, 36),
     }

@@ -3,8 +3,10 @@ use crate::fault::Halt;
 use crate::position::Position;
 use crate::resolver::lookup::{MAX_NAMES, TOO_MANY_NAMES};
 use crate::resolver::node::Place;
+use crate::resolver::object::Governed;
 use crate::resolver::shape::Resolver;
-use crate::tree::{Base, NamedNumber, Value};
+use crate::resolver::value::Spelled;
+use crate::tree::{Base, NamedNumber, TypeIndex, Value};
 
 impl<'modules, 'text> Resolver<'modules, 'text> {
     /// Returns the number that a value of an INTEGER or an ENUMERATED is. These names of numbers,
@@ -31,6 +33,14 @@ impl<'modules, 'text> Resolver<'modules, 'text> {
                 Value::Name { module, name } => {
                     (at, value) = self.number_meant(at, module, name, position)?;
                 }
+                Value::Field(_) => {
+                    let spelled = Spelled {
+                        place: at,
+                        value,
+                        position,
+                    };
+                    (at, value) = self.number_of_field(&spelled)?;
+                }
                 Value::Boolean(_)
                 | Value::Null
                 | Value::Special(_)
@@ -51,10 +61,21 @@ impl<'modules, 'text> Resolver<'modules, 'text> {
         position: Position,
     ) -> Result<(Place, Value<'text>), Halt<'text>> {
         let named = self.value_meant(place, outside, name, position, "a number")?;
-        match named.of {
-            Some(of) => self.governed(named.place, of.0, named.value, position),
-            None => Ok((named.place, named.value)),
-        }
+        let spelled = Spelled {
+            place: named.place,
+            value: named.value,
+            position,
+        };
+        self.governed(named.place, named.of, &spelled)
+    }
+
+    /// Returns what a field of an object means, with its place.
+    fn number_of_field(
+        &mut self,
+        spelled: &Spelled<'text>,
+    ) -> Result<(Place, Value<'text>), Halt<'text>> {
+        let Governed { home, of, value } = self.field_value(spelled)?;
+        self.governed(home, of, &value)
     }
 
     /// Returns the number of these digits.
@@ -73,22 +94,26 @@ impl<'modules, 'text> Resolver<'modules, 'text> {
         }
     }
 
-    /// Returns the number of the name that a value of a type is, or the value, with its place.
+    /// Returns the number of the name that a value of a type is, if the type is known, or the value,
+    /// with its place.
     fn governed(
         &mut self,
         place: Place,
-        index: usize,
-        value: Value<'text>,
-        position: Position,
+        of: Option<TypeIndex>,
+        spelled: &Spelled<'text>,
     ) -> Result<(Place, Value<'text>), Halt<'text>> {
-        let (home, base) = self.base_of(place, index, position)?;
+        let position = spelled.position;
+        let Some(of) = of else {
+            return Ok((spelled.place, spelled.value));
+        };
+        let (home, base) = self.base_of(place, of.0, position)?;
         if !matches!(base, Base::Integer(_) | Base::Enumerated(_)) {
             return Err(self.expected(place, position, "a number"));
         }
         self.step(names_of(base).len(), place, position)?;
-        match number_named(names_of(base), value) {
+        match number_named(names_of(base), spelled.value) {
             Some(number) => Ok((home, number)),
-            None => Ok((place, value)),
+            None => Ok((spelled.place, spelled.value)),
         }
     }
 }

@@ -291,7 +291,7 @@ pub(crate) fn prefix(unfolded: &Unfolded<'_>, peeled: usize, is_untagged: bool) 
 }
 
 /// Returns whether a type has no tag of its own.
-fn is_untagged(written: &Written<'_>) -> bool {
+pub(crate) fn is_untagged(written: &Written<'_>) -> bool {
     match &written.base {
         Base::Choice(_) => true,
         base => is_open(base),
@@ -308,7 +308,7 @@ pub(crate) fn is_open(base: &Base<'_>) -> bool {
 }
 
 /// Returns the tag of a type: the implicit one, or its universal one.
-fn own_tag(unfolded: &Unfolded<'_>, number: u32) -> Tag {
+pub(crate) fn own_tag(unfolded: &Unfolded<'_>, number: u32) -> Tag {
     match unfolded.tags.implicit {
         Some(tag) => tag,
         None => universal(number),

@@ -7,7 +7,7 @@ use crate::resolver::node::{Asked, Place, Tags, Unfolded, Use};
 use crate::resolver::reference::{Next, steps_of, written_name};
 use crate::resolver::shape::{Resolver, prefix};
 use crate::tags::{MAX_TAGS, TOO_MANY_TAGS};
-use crate::tree::{Base, Component, Tag as WrittenTag, TagClass, Tagging, Type, Unread};
+use crate::tree::{Base, Tag as WrittenTag, TagClass, Tagging, Type, Unread};
 use rasn_types::types::{Class, Tag};
 use std::alloc::{AllocError, Global};
 
@@ -118,15 +118,18 @@ impl<'modules, 'text> Resolver<'modules, 'text> {
         })
     }
 
-    /// Returns whether a type is a CHOICE with an extension marker, which no tag is around (X.680
-    /// 29).
-    fn is_extensible_choice(&self, unfolded: &Unfolded<'text>) -> Result<bool, Halt<'text>> {
+    /// Returns whether a type is a CHOICE that no tag is around and to which a newer version may add
+    /// alternatives (X.680 29).
+    fn is_extensible_choice(&mut self, unfolded: &Unfolded<'text>) -> Result<bool, Halt<'text>> {
         let place = unfolded.place;
-        let Base::Choice(list) = &self.modules.type_at(place.module, unfolded.index)?.base else {
+        let modules = self.modules;
+        let Base::Choice(list) = &modules.type_at(place.module, unfolded.index)?.base else {
             return Ok(false);
         };
-        let is_extensible = self.modules.is_extensible(place.module) || has_marker(list.as_slice());
-        Ok(is_extensible && prefix(unfolded, unfolded.same.peeled, true).is_none())
+        if prefix(unfolded, unfolded.same.peeled, true).is_some() {
+            return Ok(false);
+        }
+        self.is_growing(place, list.as_slice())
     }
 
     /// Follows the references of a type to one that is none.
@@ -226,16 +229,6 @@ impl Modules<'_> {
             None => false,
         }
     }
-}
-
-/// Returns whether an extension marker is among alternatives.
-fn has_marker(list: &[Component<'_>]) -> bool {
-    for component in list {
-        if let Component::Marker(_) = component {
-            return true;
-        }
-    }
-    false
 }
 
 /// Returns a tag of the context-specific class.

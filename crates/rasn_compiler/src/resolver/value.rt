@@ -8,7 +8,7 @@ use crate::position::Position;
 use crate::resolver::components::has_unknown;
 use crate::resolver::included::Listed;
 use crate::resolver::node::Place;
-use crate::resolver::shape::Resolver;
+use crate::resolver::shape::{Resolver, is_open};
 use crate::token::{Kind, Token};
 use crate::tree::{Base, Component, Presence, TypeIndex, Unread, Value as Written};
 use crate::types::Within;
@@ -25,7 +25,7 @@ pub(crate) struct Spelled<'text> {
 
 impl<'text> Spelled<'text> {
     /// Returns the value that a component has where it is absent, if there is one.
-    fn default(place: Place, presence: Presence<'text>) -> Option<Spelled<'text>> {
+    pub(crate) fn default(place: Place, presence: Presence<'text>) -> Option<Spelled<'text>> {
         match presence {
             Presence::Default(value, position) => Some(Spelled {
                 place,
@@ -39,10 +39,10 @@ impl<'text> Spelled<'text> {
 
 /// The value of a component (X.680 25).
 #[derive(Clone, Copy)]
-struct Member<'text> {
-    name: &'text str,
+pub(crate) struct Member<'text> {
+    pub(crate) name: &'text str,
     position: Position,
-    value: Spelled<'text>,
+    pub(crate) value: Spelled<'text>,
 }
 
 /// What a SEQUENCE or a SET has for a component.
@@ -77,7 +77,8 @@ impl<'modules, 'text> Resolver<'modules, 'text> {
             Base::Choice(list) => self.chosen(at, list.as_slice(), spelled, depth, left),
             Base::SequenceOf(list) => self.elements(at, list.element, false, spelled, depth, left),
             Base::SetOf(list) => self.elements(at, list.element, true, spelled, depth, left),
-            _ => self.simple_value(at, base, spelled),
+            other if is_open(other) => self.open_default(spelled, depth, left),
+            other => self.simple_value(at, other, spelled),
         }
     }
 
@@ -144,8 +145,7 @@ impl<'modules, 'text> Resolver<'modules, 'text> {
 }
 
 impl<'modules, 'text> Resolver<'modules, 'text> {
-    /// Returns what a value of a SEQUENCE or a SET has for each component. Those of its list are
-    /// among the values that are left.
+    /// Returns what a value of a SEQUENCE or a SET has for each component.
     fn wanted(
         &mut self,
         at: Place,
@@ -154,16 +154,8 @@ impl<'modules, 'text> Resolver<'modules, 'text> {
         spelled: &Spelled<'text>,
         left: &mut usize,
     ) -> Result<Vec<Wanted<'text>>, Halt<'text>> {
-        let members = self.member_values(spelled)?;
         let listed = self.listed(at, list, within, true)?;
-        let pairs = members.len().saturating_mul(listed.len());
-        self.step(
-            pairs.saturating_add(listed.len()),
-            spelled.place,
-            spelled.position,
-        )?;
-        self.check_members(members.as_slice(), listed.as_slice())?;
-        *left = left.saturating_sub(listed.len());
+        let members = self.members_of(listed.as_slice(), spelled, left)?;
         let mut wanted = Vec::new(self.alloc);
         for listed in &listed {
             if let Some(found) = wanted_for(listed, members.as_slice()) {
@@ -176,9 +168,29 @@ impl<'modules, 'text> Resolver<'modules, 'text> {
         Ok(wanted)
     }
 
+    /// Returns the values that are written for components of a list. Those of the list are among
+    /// the values that are left.
+    pub(crate) fn members_of(
+        &mut self,
+        listed: &[Listed<'text>],
+        spelled: &Spelled<'text>,
+        left: &mut usize,
+    ) -> Result<Vec<Member<'text>>, Halt<'text>> {
+        let members = self.member_values(spelled)?;
+        let pairs = members.len().saturating_mul(listed.len());
+        self.step(
+            pairs.saturating_add(listed.len()),
+            spelled.place,
+            spelled.position,
+        )?;
+        self.check_members(members.as_slice(), listed)?;
+        *left = left.saturating_sub(listed.len());
+        Ok(members)
+    }
+
     /// Returns the index and the type of the alternative that a value of a CHOICE names, and its
     /// value.
-    fn choice(
+    pub(crate) fn choice(
         &mut self,
         list: &[Component<'text>],
         spelled: &Spelled<'text>,
@@ -192,7 +204,7 @@ impl<'modules, 'text> Resolver<'modules, 'text> {
     }
 
     /// Returns how deep values may be nested in this one, which is one of those that are left.
-    fn deeper(
+    pub(crate) fn deeper(
         &self,
         spelled: &Spelled<'text>,
         depth: usize,
@@ -382,7 +394,7 @@ fn no_values(alloc: Global) -> Value<'static> {
 }
 
 /// Returns the value of the component of this name.
-fn member_named<'text>(members: &[Member<'text>], name: &str) -> Option<Spelled<'text>> {
+pub(crate) fn member_named<'text>(members: &[Member<'text>], name: &str) -> Option<Spelled<'text>> {
     for member in members {
         if member.name == name {
             return Some(member.value);

@@ -30,6 +30,7 @@ mod octet_string;
 mod optional;
 pub mod parts;
 mod prefix;
+mod primitive;
 mod real;
 mod segments;
 mod sequence;

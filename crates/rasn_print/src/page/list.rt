@@ -3,11 +3,13 @@
 use crate::dump::{End, Entries, are_entries};
 use crate::identifiers::built_in_name;
 use crate::known::{Form, Known};
+use crate::offsets::rest_of;
+use crate::reading::refuse_rest;
 use crate::refusal_text::text_of;
-use rasn::refuse_remainder;
-use rasn_dynamic::{MessageParts, Part, Refusal, decode, parts_of};
+use crate::types::MessageType;
+use rasn_dynamic::{Part, Refusal, decode, parts_of};
 use rasn_schema::{LeafKind, Type, TypeId, Value, type_at};
-use rasn_types::types::{Codec, Tag};
+use rasn_types::types::Tag;
 use std::alloc::{AllocError, Global};
 
 /// How many messages may be in one another: each is one that an open type or a string holds.
@@ -21,7 +23,8 @@ const NONE: i64 = -1;
 pub(crate) struct Listed<'a> {
     alloc: Global,
     pub known: &'a Known<'a>,
-    rule: Codec,
+    /// The type of the message, and its rules.
+    wanted: &'a MessageType<'a>,
     /// Six numbers of each part: how deep it is, how many octets after the part before it it begins,
     /// how many octets its header has and it has itself, its index in what holds it, and its type.
     pub numbers: Vec<i64>,
@@ -37,13 +40,22 @@ pub(crate) struct Listed<'a> {
 
 /// Where octets are that are a message.
 #[derive(Clone, Copy)]
-struct Nest {
+pub(crate) struct Nest {
     /// Where they begin.
-    pub offset: usize,
+    offset: usize,
     /// In how many parts they are.
-    pub depth: usize,
+    depth: usize,
     /// How many more messages may be in one another.
-    pub levels: usize,
+    levels: usize,
+}
+
+impl Nest {
+    /// The place of the message that is listed.
+    pub(crate) const WHOLE: Nest = Nest {
+        offset: 0,
+        depth: 0,
+        levels: NESTED,
+    };
 }
 
 /// A part as the script has it.
@@ -66,11 +78,11 @@ struct Outer {
 }
 
 impl<'a> Listed<'a> {
-    /// Returns that nothing is listed yet of a message that these rules read.
+    /// Returns that nothing is listed yet of a message of this type.
     pub(crate) fn new(
         alloc: Global,
         known: &'a Known<'a>,
-        rule: Codec,
+        wanted: &'a MessageType<'a>,
     ) -> Result<Listed<'a>, AllocError> {
         let mut types = Vec::new(alloc);
         for _ in known.schema.types() {
@@ -79,7 +91,7 @@ impl<'a> Listed<'a> {
         Ok(Listed {
             alloc,
             known,
-            rule,
+            wanted,
             numbers: Vec::new(alloc),
             before: 0,
             types,
@@ -107,8 +119,13 @@ impl<'a> Listed<'a> {
         Ok(())
     }
 
-    /// Adds encodings whose types aren't known, of octets in this place.
+    /// Adds encodings whose types aren't known, of octets in this place, if each header can be read.
     fn push_entries(&mut self, octets: &[u8], nest: Nest) -> Result<(), AllocError> {
+        match are_entries(self.alloc, octets) {
+            Ok(true) => {}
+            Ok(false) => return Ok(()),
+            Err(_) => return Err(AllocError),
+        }
         let mut entries = Entries::new(self.alloc, octets);
         // Each encoding has an octet of its own.
         for _ in octets {
@@ -130,7 +147,7 @@ impl<'a> Listed<'a> {
     /// Adds the name of an identifier, if it has one. Returns the one by which types are known.
     fn name_identifier(&mut self, part: &Part<'_>) -> Result<Option<&'static str>, AllocError> {
         let (alloc, schema) = (self.alloc, &self.known.schema);
-        let value = match decode(alloc, self.rule, schema, part.id, part.octets) {
+        let value = match decode(alloc, self.wanted.rule, schema, part.id, part.octets) {
             Ok(value) => value,
             Err(error) if error.is_out_of_memory() => return Err(AllocError),
             Err(_) => return Ok(None),
@@ -169,42 +186,25 @@ fn number_of(count: usize) -> i64 {
     i64::try_from(count).unwrap_or(i64::MAX)
 }
 
-/// Lists the parts of a message of this type and of what it holds. Returns why it is refused, if it is.
-///
-/// # Errors
-/// `AllocError` if memory runs out.
-pub(crate) fn list_message(
-    listed: &mut Listed<'_>,
-    id: TypeId,
-    octets: &[u8],
-) -> Result<Option<Refusal>, AllocError> {
-    let nest = Nest {
-        offset: 0,
-        depth: 0,
-        levels: NESTED,
-    };
-    list(listed, id, octets, nest)
-}
-
-/// Lists the parts of a message of this type, which is in this place. Returns why it is refused, if it
-/// is: then nothing is listed.
+/// Lists the parts of a message of this type, which is in this place, and of what it holds. Returns
+/// why it is refused, if it is: then nothing is listed.
 ///
 /// # Errors
 /// `AllocError` if memory runs out.
 #[cycle(list)]
-fn list(
+pub(crate) fn list(
     listed: &mut Listed<'_>,
     id: TypeId,
     octets: &[u8],
     nest: Nest,
 ) -> Result<Option<Refusal>, AllocError> {
     let alloc = listed.alloc;
-    let mut parts = match parts_of(alloc, listed.rule, &listed.known.schema, id, octets) {
+    let mut parts = match parts_of(alloc, listed.wanted.rule, &listed.known.schema, id, octets) {
         Ok(parts) => parts,
         Err(refusal) if refusal.error.is_out_of_memory() => return Err(AllocError),
         Err(refusal) => return Ok(Some(refusal)),
     };
-    if let Some(refusal) = rest_refusal(alloc, listed.rule, id, octets, &parts) {
+    if let Err(refusal) = refuse_rest(alloc, listed.wanted, octets, rest_of(&parts, octets)) {
         return Ok(Some(refusal));
     }
     let mut around = Vec::new(alloc);
@@ -228,27 +228,6 @@ fn list(
         })?;
     }
     Ok(None)
-}
-
-/// Returns the refusal of what follows a message that has these parts, if anything does.
-fn rest_refusal(
-    alloc: Global,
-    rule: Codec,
-    id: TypeId,
-    octets: &[u8],
-    parts: &MessageParts<'_>,
-) -> Option<Refusal> {
-    let len = parts.list.first().map_or(0, |whole| whole.octets.len());
-    match refuse_remainder(rule, octets.get(len..).unwrap_or(&[])) {
-        Ok(()) => None,
-        Err(error) => Some(Refusal {
-            error,
-            offset: len,
-            id,
-            steps: Vec::new(alloc),
-            is_cut: false,
-        }),
-    }
 }
 
 /// Adds a part of a message. Of unknown values there may be none.
@@ -358,17 +337,8 @@ fn list_held(
                 None => Ok(()),
             }
         }
-        Some(_) | None if form == Form::Open => list_entries(listed, held, nest),
+        Some(_) | None if form == Form::Open => listed.push_entries(held, nest),
         Some(_) | None => Ok(()),
-    }
-}
-
-/// Lists the encodings that octets of an open type are, if each header can be read.
-fn list_entries(listed: &mut Listed<'_>, octets: &[u8], nest: Nest) -> Result<(), AllocError> {
-    match are_entries(listed.alloc, octets) {
-        Ok(true) => listed.push_entries(octets, nest),
-        Ok(false) => Ok(()),
-        Err(_) => Err(AllocError),
     }
 }
 

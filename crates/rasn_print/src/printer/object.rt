@@ -1,17 +1,14 @@
 //! Values as JSON that says what `show` says: names, times and identifiers as text, and what
 //! extensions, keys and open types hold by its type.
 
-use super::{LinePlace, MESSAGE_LEVELS, hint_of, inside, parts_of, short_text};
-use crate::dump::End;
+use super::{Held, LinePlace, held_by, hint_of, inside, parts_of, short_text};
 use crate::exact::is_exact;
 use crate::known::{Form, Known};
 use crate::leaf::{
-    bit_text, is_named_bits, leaf_text, name_of, names_of, number_text, string_text,
+    bit_text, is_named_bits, leaf_text, meaning_text, name_of, names_of, number_text, string_text,
 };
-use crate::refusal_text::text_of;
 use crate::types::MessageType;
 use json::{Pretty, Reader, Scratch, Token, Writer};
-use rasn_dynamic::decode;
 use rasn_json::Layout;
 use rasn_schema::{
     LeafKind, Schema, Type, Value, View, is_unknown_at, part_name, part_type, type_at,
@@ -36,7 +33,14 @@ pub(crate) fn object_text(
     let place = LinePlace::of(alloc, known, wanted.rule, wanted.name);
     let mut out = Writer::new(Vec::new(alloc));
     put(&mut out, place, &wanted.schema.view(wanted.root, value))?;
-    let text = written(alloc, out.into_inner());
+    laid_out(alloc, written(alloc, out.into_inner()), layout)
+}
+
+/// Returns JSON as it is laid out, of which this is the text without spaces.
+///
+/// # Errors
+/// `AllocError` if memory runs out.
+pub(crate) fn laid_out(alloc: Global, text: String, layout: Layout) -> Result<String, AllocError> {
     match layout {
         Layout::Compact => Ok(text),
         Layout::Indented => indented(alloc, text.as_str()),
@@ -205,29 +209,21 @@ fn put_held(
     form: Form,
     octets: &[u8],
 ) -> Put {
-    let (alloc, known, hint) = (place.alloc, place.known, place.hint.unwrap_or(""));
-    let known_type = if place.levels > MESSAGE_LEVELS {
-        known.find(form, hint)
-    } else {
-        None
-    };
-    let Some(id) = known_type else {
-        return put_closed(out, place, value, form, octets);
-    };
-    match decode(alloc, place.rule, &known.schema, id, octets) {
-        Ok(value) => {
-            let hint = None;
-            let place = LinePlace { hint, ..place };
-            put(out, place, &known.schema.view(id, &value))
+    match held_by(place, form, octets)? {
+        Held::Unknown => put_closed(out, place, value, form, octets),
+        Held::Value(id, held) => {
+            let inner = LinePlace {
+                hint: None,
+                ..place
+            };
+            put(out, inner, &place.known.schema.view(id, &held))
         }
-        Err(error) if error.is_out_of_memory() => Err(AllocError),
-        Err(error) => {
-            let cause = text_of(alloc, &error, octets, End::Input)?;
+        Held::Refused(cause) => {
             out.begin_object()?;
             out.key("octets")?;
-            put_digits(out, alloc, octets)?;
+            put_digits(out, place.alloc, octets)?;
             out.key("error")?;
-            out.string(format!(in alloc; "not of {hint}: {cause}")?.as_str())?;
+            out.string(cause.as_str())?;
             out.end_object()
         }
     }
@@ -286,9 +282,9 @@ fn put_leaf(out: &mut Writer, place: LinePlace<'_>, ty: Option<&Type>, value: &V
         Value::Null | Value::Absent => out.null(),
         Value::Integer(number) => put_number(out, alloc, ty, number),
         Value::Bits(bits) if is_named_bits(ty) => put_bits(out, alloc, ty, &bits.as_bitstr()),
-        Value::Octets(octets) => match string_text(alloc, ty, value)? {
+        Value::Octets(octets) => match meaning_text(alloc, ty, octets.as_slice())? {
             Some(text) => out.string(text.as_str()),
-            None => put_digits(out, alloc, octets.as_slice()),
+            None => put_characters(out, alloc, ty, value, octets.as_slice()),
         },
         Value::Text(_) | Value::Units(_) => match string_text(alloc, ty, value)? {
             Some(text) => out.string(text.as_str()),
@@ -301,6 +297,20 @@ fn put_leaf(out: &mut Writer, place: LinePlace<'_>, ty: Option<&Type>, value: &V
         | Value::Items(_)
         | Value::Elements(_)
         | Value::Chosen(_, _) => out.string(leaf_text(alloc, known, ty, value, false)?.as_str()),
+    }
+}
+
+/// Writes the characters of a string, or octets in hexadecimal.
+fn put_characters(
+    out: &mut Writer,
+    alloc: Global,
+    ty: Option<&Type>,
+    value: &Value<'_>,
+    octets: &[u8],
+) -> Put {
+    match string_text(alloc, ty, value)? {
+        Some(text) => out.string(text.as_str()),
+        None => put_digits(out, alloc, octets),
     }
 }
 

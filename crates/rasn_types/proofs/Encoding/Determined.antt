@@ -6,9 +6,9 @@ use Rattle.rasn_types.specs.Tags.{Codec, Ber, Cer, Der, Tag, in_universal}
 use Rattle.rasn_types.specs.Framing.{AreOctets}
 use Rattle.rasn_types.specs.Calendar.{Day, Moment}
 use Rattle.rasn_types.specs.Time.{written_date, written_generalized, written_utc}
-use Rattle.rasn_types.specs.Shapes.{Tree, number, bits, numbers, instant, on_day, Kind, boolean, null, object_identifier, integer, enumerated, octet_string, fixed, numeric, printable, visible, ia5, any_octets, bmp, utf8, utc_time, generalized_time, date}
+use Rattle.rasn_types.specs.Shapes.{Tree, number, bits, numbers, instant, on_day, Kind, boolean, null, object_identifier, integer, enumerated, octet_string, fixed, numeric, printable, visible, ia5, any_octets, bmp, universal, utf8, real, time_text, time_digits, utc_time, generalized_time, date}
 use Rattle.rasn_types.specs.Contents.{ShortArcs, signed, IsBool, IsObjectIdentifier, joined_lists, bits_of, is_set}
-use Rattle.rasn_types.specs.Grammar.{Family, plain_family, bit_family, named_family, text_family, units}
+use Rattle.rasn_types.specs.Grammar.{Family, plain_family, bit_family, named_family, text_family, units, quads}
 use Rattle.rasn_types.specs.Bytes.{Writing, Each, DefiniteForm, IndefiniteForm, PrimitiveEncoding, ConstructedEncoding, AreCut, AllFalse, WritesString, WrittenBits, WritesText, WritesOctets, Written, WritesIn}
 use Rattle.rasn_types.proofs.Headers.Frames.{split_one}
 use Rattle.rasn_types.proofs.Headers.Digits.{id_shortest_one, length_shortest_one, short_arcs_one, arcs_of, arcs_one}
@@ -113,6 +113,9 @@ contents_once null t k l h i = h.is.1 ∙ sym i.is.1
 contents_once object_identifier t k l h i =
     let z : h.is.0 ≡ i.is.0 = numbers_one h.is.0 i.is.0 (sym h.is.1 ∙ i.is.1) in
     identifier_once k l i.is.0 (subst (IsObjectIdentifier k) z h.is.2) i.is.2 h.shortest.0 h.shortest.1 i.shortest.0 i.shortest.1 h.octets i.octets
+contents_once real t k l h i = (h.is.2.3 tt) ∙ (numbers_one h.is.0 i.is.0 (sym h.is.1 ∙ i.is.1) ∙ sym (i.is.2.3 tt))
+contents_once time_text t k l h i = numbers_one k l (sym h.is.0 ∙ i.is.0)
+contents_once (time_digits n) t k l h i = numbers_one k l (sym h.is.0 ∙ i.is.0)
 contents_once kind t k l h i = absurd h.is
 
 unit_one : (a b c d : ℕ) → b < 256 → d < 256 → 256 * a + b ≡ 256 * c + d → (a ≡ c) × (b ≡ d)
@@ -132,6 +135,30 @@ units_once (a ∷ c ∷ k) (b ∷ d ∷ l) us o u h i =
     let r = unit_one a c b d o.1.0 u.1.0 f in
     ap₂ ◌∷◌ r.0 (ap₂ ◌∷◌ r.1 (units_once k l i.0 o.1.1 u.1.1 (subst (units k) g h.2) i.2))
 
+quad_one : (a b c d e f g h : ℕ) → b < 256 → c < 256 → d < 256 → f < 256 → g < 256 → h < 256
+    → 256 * (256 * (256 * a + b) + c) + d ≡ 256 * (256 * (256 * e + f) + g) + h → (a ≡ e) × (b ≡ f) × (c ≡ g) × (d ≡ h)
+quad_one a b c d e f g h p q r s t u w = (omega arith, omega arith, omega arith, omega arith)
+
+quads_once : (k l ns : List ℕ) → AreOctets k → AreOctets l → quads k ns → quads l ns → k ≡ l
+quads_once [] [] ns o u h i = refl
+quads_once [] (b ∷ []) ns o u h i = absurd i
+quads_once [] (b ∷ d ∷ []) ns o u h i = absurd i
+quads_once [] (b ∷ d ∷ f ∷ []) ns o u h i = absurd i
+quads_once [] (b ∷ d ∷ f ∷ g ∷ l) ns o u h i = let e = i.4 in cc
+quads_once (a ∷ []) l ns o u h i = absurd h
+quads_once (a ∷ b ∷ []) l ns o u h i = absurd h
+quads_once (a ∷ b ∷ c ∷ []) l ns o u h i = absurd h
+quads_once (a ∷ b ∷ c ∷ d ∷ k) [] ns o u h i = let e = h.4 in cc
+quads_once (a ∷ b ∷ c ∷ d ∷ k) (e ∷ []) ns o u h i = absurd i
+quads_once (a ∷ b ∷ c ∷ d ∷ k) (e ∷ f ∷ []) ns o u h i = absurd i
+quads_once (a ∷ b ∷ c ∷ d ∷ k) (e ∷ f ∷ g ∷ []) ns o u h i = absurd i
+quads_once (a ∷ b ∷ c ∷ d ∷ k) (e ∷ f ∷ g ∷ j ∷ l) ns o u h i =
+    let m : h.0 ∷ h.1 ≡ i.0 ∷ i.1 = sym h.4 ∙ i.4 in
+    let n : h.0 ≡ i.0 = cc in
+    let p : h.1 ≡ i.1 = cc in
+    let r = quad_one a b c d e f g j o.1.0 o.1.1.0 o.1.1.1.0 u.1.0 u.1.1.0 u.1.1.1.0 (sym h.2 ∙ (n ∙ i.2)) in
+    ap₂ ◌∷◌ r.0 (ap₂ ◌∷◌ r.1 (ap₂ ◌∷◌ r.2 (ap₂ ◌∷◌ r.3 (quads_once k l i.1 o.1.1.1.1 u.1.1.1.1 (subst (quads k) p h.5) i.5))))
+
 moment_one : (m n : Moment) → instant m ≡ instant n → m ≡ n
 moment_one m n e = cc
 
@@ -148,6 +175,8 @@ text_once ia5 t k l h i o u = numbers_one k l (sym h.0 ∙ i.0)
 text_once any_octets t k l h i o u = numbers_one k l (sym h ∙ i)
 text_once bmp t k l h i o u =
     let z : h.0 ≡ i.0 = numbers_one h.0 i.0 (sym h.1 ∙ i.1) in units_once k l i.0 o u (subst (units k) z h.2) i.2
+text_once universal t k l h i o u =
+    let z : h.0 ≡ i.0 = numbers_one h.0 i.0 (sym h.1 ∙ i.1) in quads_once k l i.0 o u (subst (quads k) z h.2) i.2
 text_once utf8 t k l h i o u =
     let z : chars k ≡ chars l = numbers_one (chars k) (chars l) (sym h.0 ∙ i.0) in
     sym (encodes-chars k h.1) ∙ (ap encodes z ∙ encodes-chars l i.1)

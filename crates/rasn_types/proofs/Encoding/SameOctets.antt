@@ -2,7 +2,7 @@
 use Rattle.std.proofs.Common.{◌≡◌, ℕ, suc, ◌<◌, ◌⊎◌, ◌≢◌, inl, inr, List, [], ◌∷◌, ◌++◌, ◌+◌, refl, sym, ap, ap₂, ◌∙◌, subst, arith, IsPermutation, Some, None}
 use Rattle.std.proofs.lemmas.List.Sorted.{IsPermutation-sym}
 use Rattle.rasn_types.specs.Tags.{Codec, Ber, Cer, Der, Tag}
-use Rattle.rasn_types.specs.Shapes.{Tree, number, bits, numbers, instant, on_day, items, set_elements, chosen, absent, Kind, boolean, null, object_identifier, integer, enumerated, octet_string, fixed, numeric, printable, visible, ia5, any_octets, bmp, utf8, utc_time, generalized_time, date, Shape, leaf, any, prefix, choice, open_choice, option, seq, set, sorted_set, list, set_of, unknown, Parts, part, count, IsFirst, Presence, required, optional, addition, optional_by, default_by}
+use Rattle.rasn_types.specs.Shapes.{Tree, number, bits, numbers, instant, on_day, items, set_elements, chosen, absent, Kind, boolean, null, object_identifier, integer, enumerated, octet_string, fixed, numeric, printable, visible, ia5, any_octets, bmp, universal, utf8, real, time_text, time_digits, utc_time, generalized_time, date, Shape, leaf, any, prefix, choice, open_choice, option, seq, set, sorted_set, list, set_of, unknown, Parts, part, count, IsFirst, Presence, required, optional, addition, optional_by, default_by}
 use Rattle.rasn_types.specs.Framing.{Begins}
 use Rattle.rasn_types.specs.Contents.{Contents, joined_lists}
 use Rattle.rasn_types.specs.Grammar.{Family, plain_family, bit_family, named_family, text_family, family}
@@ -32,6 +32,9 @@ contents_flat rule (integer range) l t h = flat_if t _ h.0 tt
 contents_flat rule (enumerated known) l t h = flat_if t _ h.0 tt
 contents_flat rule null l t h = flat_if t _ h.0 tt
 contents_flat rule object_identifier l t h = flat_if t (numbers h.0) h.1 tt
+contents_flat rule real l t h = flat_if t (numbers h.0) h.1 tt
+contents_flat rule time_text l t h = flat_if t (numbers l) h.0 tt
+contents_flat rule (time_digits n) l t h = flat_if t (numbers l) h.0 tt
 contents_flat rule kind l t h = absurd h
 
 text_flat : (kind : Kind) (l : List ℕ) (t : Tree) → WritesText kind l t → IsFlat t
@@ -43,6 +46,7 @@ text_flat visible l t h = flat_if t (numbers l) h.0 tt
 text_flat ia5 l t h = flat_if t (numbers l) h.0 tt
 text_flat any_octets l t h = flat_if t (numbers l) h tt
 text_flat bmp l t h = flat_if t (numbers h.0) h.1 tt
+text_flat universal l t h = flat_if t (numbers h.0) h.1 tt
 text_flat utf8 l t h = flat_if t _ h.0 tt
 text_flat utc_time l t h = flat_if t (instant h.0) h.1 tt
 text_flat generalized_time l t h = flat_if t (instant h.0) h.1 tt

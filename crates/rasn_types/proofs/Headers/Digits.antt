@@ -29,7 +29,7 @@ heads p a b r s h k e =
     let g : a * p ≡ b * p = ap (λ z. z * p) f in
     (f, omega arith)
 
-same_digits : (base : ℕ) → 0 < base → (k l : List ℕ) → length k ≡ length l → number_in base k ≡ number_in base l → SameDigits base k l
+pub same_digits : (base : ℕ) → 0 < base → (k l : List ℕ) → length k ≡ length l → number_in base k ≡ number_in base l → SameDigits base k l
 same_digits base h [] l n e = tt
 same_digits base h (a ∷ k) [] n e = tt
 same_digits base h (a ∷ k) (b ∷ l) n e =
@@ -39,11 +39,11 @@ same_digits base h (a ∷ k) (b ∷ l) n e =
     (subst (λ z. number_in base k < base ^ z) m (number_lt base h k)) (number_lt base h l) f in
     (r.0, same_digits base h k l m r.1)
 
-lead : (base a : ℕ) (l : List ℕ) → 0 < a % base → base ^ length l ≤ number_in base (a ∷ l)
+pub lead : (base a : ℕ) (l : List ℕ) → 0 < a % base → base ^ length l ≤ number_in base (a ∷ l)
 lead base a l h = let m : 1 * base ^ length l ≤ a % base * base ^ length l = mul-le-mul_right (base ^ length l) h in omega (arith, one-mul (base ^ length l))
 
 -- The longer of two numbers is greater if its first digit isn't 0.
-longer : (base : ℕ) → 0 < base → (k : List ℕ) (b : ℕ) (l : List ℕ) → 0 < b % base → length k ≤ length l → number_in base k < number_in base (b ∷ l)
+pub longer : (base : ℕ) → 0 < base → (k : List ℕ) (b : ℕ) (l : List ℕ) → 0 < b % base → length k ≤ length l → number_in base k < number_in base (b ∷ l)
 longer base h k b l lead_b n =
     let p : base ^ length k ≤ base ^ length l = pow-le-pow_right h n in
     omega (arith, number_lt base h k, lead base b l lead_b)
@@ -155,7 +155,7 @@ octets_one k l o u n e = octet_digits k l o u n (same_digits 256 (omega arith) k
 octet_lead : (b : ℕ) → b ≢ 0 → b < 256 → 0 < b % 256
 octet_lead b h k = omega arith
 
-shortest_lengths : (b : ℕ) (k : List ℕ) (c : ℕ) (l : List ℕ) → b ≢ 0 → c ≢ 0 → b < 256 → c < 256 → number_in 256 (b ∷ k) ≡ number_in 256 (c ∷ l) → length k ≡ length l
+pub shortest_lengths : (b : ℕ) (k : List ℕ) (c : ℕ) (l : List ℕ) → b ≢ 0 → c ≢ 0 → b < 256 → c < 256 → number_in 256 (b ∷ k) ≡ number_in 256 (c ∷ l) → length k ≡ length l
 shortest_lengths b k c l p q o u e = go (cases_order (length k) (length l))
   where
     differ : (x y : ℕ) → x < y → x ≡ y → ⊥

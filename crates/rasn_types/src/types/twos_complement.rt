@@ -23,9 +23,9 @@ pub fn shortest(octets: &[u8]) -> &[u8]
     &octets[start..]
 }
 
-// Returns whether an octet only repeats the sign of the octet after it.
+/// Returns whether an octet only repeats the sign of the octet after it (X.690 8.3.2).
 #[inline(always)]
-fn repeats_sign(octet: u8, next: u8) -> bool
+pub fn repeats_sign(octet: u8, next: u8) -> bool
     ensures { IsWhether result (RepeatsSign octet next) }
 {
     if next < 128 { octet == 0 } else { octet == 255 }

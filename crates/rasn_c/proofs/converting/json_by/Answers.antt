@@ -1,9 +1,8 @@
-use Rattle.std.proofs.Common.{ℕ, ap, inr, ◌++◌, ◌∷◌, []}
+use Rattle.std.proofs.Common.{ℕ, ap, inl, inr, ◌++◌, ◌∷◌, []}
 use Rattle.std.specs.Prelude.{Vec, string_bytes}
 use Rattle.std.specs.Global.{Global}
 use Rattle.rasn_c.specs.Converting.{IsNoJsonBy}
-use Rattle.rasn_c.specs.declared.status.Status.TheVariants.{Refused}
-use Rattle.rasn_c.proofs.Ends.{by_status, json_unread, text_of_json}
+use Rattle.rasn_c.proofs.Ends.{ended_at, json_unread, no_memory, text_of_json}
 use Rattle.rasn_c.proofs.converting.json_by.Goals as goal
 
 pub returns-in-Ok : goal.returns-in-Ok
@@ -26,10 +25,19 @@ returns-in-Err-Decode c = json_unread _ _ _ c.unread_stop.result _ _ _ c.in_ok-s
 pub returns : goal.returns
 returns c =
     let had = rw c.in-Err-Json.field-0-is at c.in-Err-Json.ensures.err in
-    by_status (IsNoJsonBy c.args.schema.now c.args.rule c.args.octets.now c.json_stop.result) c.json_stop.result Refused c.json_stop.ensures (record {
+    ended_at (IsNoJsonBy c.args.schema.now c.args.rule c.args.octets.now c.json_stop.result) _ _ c.json_stop.result c.json_stop.ensures.place (λ e placed. record {
       schema = c.in_ok-schema.field-0.schema;
       root = c.in_ok-schema.field-0.root;
       rule = c.in_ok-schema.field-0.rule;
       asked = c.in_ok-schema.ensures;
-      why = inr (had.0, had.1);
+      why = inr (record {
+        value = had.0;
+        read = had.1;
+        error = c.in-Err-Json.error;
+        refused = elim had.2 [
+          | inl memory ↦ absurd (no_memory _ _ c.json_stop.ensures.memory e memory)
+          | inr refused ↦ refused
+        ];
+        place = placed;
+      });
     }) tt

@@ -6,7 +6,7 @@ abbrev pub invariant-walk : goal.invariant-walk
 invariant-walk l = record {
   same_list : l.parts.list ≡ l.fn.parts.list;
   same_input : l.parts.input.now ≡ l.fn.parts.input.now;
-  rows : Completes l.schema.types.items l.parts.input.now l.parts.list.items l.parts.next l.listing.parts.items;
+  rows : Completes l.schema.types.items l.root.0 l.parts.input.now l.parts.list.items l.parts.next l.parts.path.items l.listing.parts.items l.listing.names.items;
 }
 
 abbrev pub decreases-walk : goal.decreases-walk

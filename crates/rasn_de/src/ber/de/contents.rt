@@ -47,11 +47,14 @@ impl<'input> Decoder<'input> {
         }
     }
 
-    /// Reads the contents of the next value, which must have a definite length and, under DER, the
-    /// constructed bit that it is written with. An indefinite length that the rules allow consumes
+    /// Reads the contents octets of the next value, which must have a definite length and, under
+    /// DER, the constructed bit that values with its tag are written with (X.690 8.1.4).
+    ///
+    /// # Errors
+    /// Framing errors, with nothing consumed; but an indefinite length that the rules allow consumes
     /// the header.
     #[inline(always)]
-    pub(super) fn contents(&mut self, tag: Tag) -> Result<&'input [u8], DecodeError>
+    pub fn contents(&mut self, tag: Tag) -> Result<&'input [u8], DecodeError>
         ensures exact { DecodesLeaf (λ c. c.now) (λ r. definite_at self.old.rule tag self.old.rest ≡ r) self.old result self.new }
         ensures octets { AreOctets self.old.rest }
     {

@@ -51,8 +51,11 @@ impl<'input> Decoder<'input> {
         Ok(Some(value))
     }
 
-    /// Reads an extension addition group, which is a SEQUENCE of its own, or returns `None` if the
-    /// contents end or another tag follows (X.680 25.10).
+    /// Reads an extension addition group as a SEQUENCE of its own, as the crate `rasn` has it, or
+    /// returns `None` if the contents end or another tag follows.
+    ///
+    /// By X.680 25 the components of a group `[[ ]]` are components of the SEQUENCE itself, and the
+    /// brackets have no octets. To read these, read each component as an optional one.
     ///
     /// # Errors
     /// As `decode_optional`.

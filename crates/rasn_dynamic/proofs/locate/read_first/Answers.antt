@@ -7,6 +7,8 @@ use Rattle.rasn_dynamic.specs.Inside.{DecodesTree}
 use Rattle.rasn_dynamic.specs.Making.{Making}
 use Rattle.rasn_dynamic.specs.Faults.{IsFault, start}
 use Rattle.rasn_dynamic.specs.Listed.{Lists, PartsInside}
+use Rattle.rasn_dynamic.specs.Times.{Covers}
+use Rattle.rasn_dynamic.proofs.Times.{covers_itself}
 use Rattle.rasn_dynamic.proofs.Checked.{same_error}
 use Rattle.rasn_dynamic.proofs.Faults.{fault_short, located}
 use Rattle.rasn_dynamic.proofs.locate.read_first.Goals as goal
@@ -42,8 +44,10 @@ returns-in-Ok-clause-read g c =
     let last = c.decode_at.new.decoder in
     rw (← c.types.ensures.types) (last, sym c.remaining.ensures.value, subst (λ z. Making g.M.Made.KEEP tree_of (DecodesTree s) z (Ok c.decode_at.new.out) last) e c.in-Ok.ensures.reads)
 
-pub returns-in-Ok-clause-fits : goal.returns-in-Ok-clause-fits
-returns-in-Ok-clause-fits g c = rw (← c.types.ensures.types) c.in-Ok.ensures.fits
+pub returns-in-Ok-clause-times : goal.returns-in-Ok-clause-times
+returns-in-Ok-clause-times g c =
+    let e : c.new-decoder.result ≡ start c.args.rule c.args.input.now = c.new-decoder.ensures ∙ ap (λ z. start z c.args.input.now) c.of.ensures in
+    rw (← c.types.ensures.types) (λ k. c.in-Ok.ensures.fits k (start c.args.rule c.args.input.now) (subst (Covers (start c.args.rule c.args.input.now)) (sym e) (covers_itself (start c.args.rule c.args.input.now))))
 
 pub returns-in-Ok-clause-listed : goal.returns-in-Ok-clause-listed
 returns-in-Ok-clause-listed g c =

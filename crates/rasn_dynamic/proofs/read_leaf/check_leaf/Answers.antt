@@ -1,4 +1,3 @@
-use Rattle.std.proofs.Common.{inr}
 use Rattle.rasn_dynamic.specs.LeafErrors.{leaf_errors}
 use Rattle.rasn_dynamic.proofs.CheckedLeaves.{checks_object}
 use Rattle.rasn_dynamic.proofs.Faults.{if_err_map}
@@ -56,64 +55,73 @@ returns-in-Utf8-clause-reads c = rw c.in-Utf8.is c.check_text.ensures.reads
 
 pub returns-in-ObjectIdentifier-clause-fails : goal.returns-in-ObjectIdentifier-clause-fails
 unfolding leaf_errors
-returns-in-ObjectIdentifier-clause-fails c = rw c.in-ObjectIdentifier.is (if_err_map _ _ (λ e h. inr h) (reported c.check_arcs.result c.check_arcs.new.error) c.check_arcs.ensures.fails)
+returns-in-ObjectIdentifier-clause-fails c = rw c.in-ObjectIdentifier.is c.check_arcs.ensures.fails
 
 pub returns-in-Integer-clause-fails : goal.returns-in-Integer-clause-fails
 unfolding leaf_errors
-returns-in-Integer-clause-fails c = rw c.in-Integer.is (if_err_map _ _ (λ e h. inr (number_fails c.args.tag c.args.bounds.now c.args.decoder.now _ e h)) (reported c.check_integer.result c.check_integer.new.error) c.check_integer.ensures.fails)
+returns-in-Integer-clause-fails c = rw c.in-Integer.is (if_err_map _ _ (λ e h. number_fails c.args.tag c.args.bounds.now c.args.decoder.now _ e h) (reported c.check_integer.result c.check_integer.new.error) c.check_integer.ensures.fails)
 
 pub returns-in-BitString-clause-fails : goal.returns-in-BitString-clause-fails
 unfolding leaf_errors
-returns-in-BitString-clause-fails c = rw c.in-BitString.is (if_err_map _ _ (λ e h. inr h) (reported c.check_bits.result c.check_bits.new.error) c.check_bits.ensures.fails)
+returns-in-BitString-clause-fails c = rw c.in-BitString.is c.check_bits.ensures.fails
 
 pub returns-in-NamedBits-clause-fails : goal.returns-in-NamedBits-clause-fails
 unfolding leaf_errors
-returns-in-NamedBits-clause-fails c = rw c.in-NamedBits.is (if_err_map _ _ (λ e h. inr h) (reported c.check_named_bits.result c.check_named_bits.new.error) c.check_named_bits.ensures.fails)
+returns-in-NamedBits-clause-fails c = rw c.in-NamedBits.is c.check_named_bits.ensures.fails
 
 pub returns-in-OctetString-clause-fails : goal.returns-in-OctetString-clause-fails
 unfolding leaf_errors
-returns-in-OctetString-clause-fails c = rw c.in-OctetString.is (if_err_map _ _ (λ e h. inr h) (reported c.check_octets.result c.check_octets.new.error) c.check_octets.ensures.fails)
+returns-in-OctetString-clause-fails c = rw c.in-OctetString.is c.check_octets.ensures.fails
 
 pub returns-in-FixedOctetString-clause-fails : goal.returns-in-FixedOctetString-clause-fails
 unfolding leaf_errors
-returns-in-FixedOctetString-clause-fails c = rw c.in-FixedOctetString.is (if_err_map _ _ (λ e h. inr h) (reported c.check_fixed_octets.result c.check_fixed_octets.new.error) c.check_fixed_octets.ensures.fails)
+returns-in-FixedOctetString-clause-fails c = rw c.in-FixedOctetString.is c.check_fixed_octets.ensures.fails
 
 pub returns-in-Numeric-clause-fails : goal.returns-in-Numeric-clause-fails
 unfolding leaf_errors
-returns-in-Numeric-clause-fails c = rw c.in-Numeric.is (if_err_map _ _ (λ e h. inr h) (reported c.check_string.result c.check_string.new.error) c.check_string.ensures.fails)
+returns-in-Numeric-clause-fails c = rw c.in-Numeric.is c.check_string.ensures.fails
 
 pub returns-in-Printable-clause-fails : goal.returns-in-Printable-clause-fails
 unfolding leaf_errors
-returns-in-Printable-clause-fails c = rw c.in-Printable.is (if_err_map _ _ (λ e h. inr h) (reported c.check_string-in-Printable.result c.check_string-in-Printable.new.error) c.check_string-in-Printable.ensures.fails)
+returns-in-Printable-clause-fails c = rw c.in-Printable.is c.check_string-in-Printable.ensures.fails
 
 pub returns-in-Visible-clause-fails : goal.returns-in-Visible-clause-fails
 unfolding leaf_errors
-returns-in-Visible-clause-fails c = rw c.in-Visible.is (if_err_map _ _ (λ e h. inr h) (reported c.check_string-in-Visible.result c.check_string-in-Visible.new.error) c.check_string-in-Visible.ensures.fails)
+returns-in-Visible-clause-fails c = rw c.in-Visible.is c.check_string-in-Visible.ensures.fails
 
 pub returns-in-Ia5-clause-fails : goal.returns-in-Ia5-clause-fails
 unfolding leaf_errors
-returns-in-Ia5-clause-fails c = rw c.in-Ia5.is (if_err_map _ _ (λ e h. inr h) (reported c.check_string-in-Ia5.result c.check_string-in-Ia5.new.error) c.check_string-in-Ia5.ensures.fails)
+returns-in-Ia5-clause-fails c = rw c.in-Ia5.is c.check_string-in-Ia5.ensures.fails
 
 pub returns-in-AnyOctets-clause-fails : goal.returns-in-AnyOctets-clause-fails
 unfolding leaf_errors
-returns-in-AnyOctets-clause-fails c = rw c.in-AnyOctets.is (if_err_map _ _ (λ e h. inr h) (reported c.check_string-in-AnyOctets.result c.check_string-in-AnyOctets.new.error) c.check_string-in-AnyOctets.ensures.fails)
+returns-in-AnyOctets-clause-fails c = rw c.in-AnyOctets.is c.check_string-in-AnyOctets.ensures.fails
 
 pub returns-in-Bmp-clause-fails : goal.returns-in-Bmp-clause-fails
 unfolding leaf_errors
-returns-in-Bmp-clause-fails c = rw c.in-Bmp.is (if_err_map _ _ (λ e h. inr h) (reported c.check_bmp.result c.check_bmp.new.error) c.check_bmp.ensures.fails)
+returns-in-Bmp-clause-fails c = rw c.in-Bmp.is c.check_bmp.ensures.fails
 
 pub returns-in-Utf8-clause-fails : goal.returns-in-Utf8-clause-fails
 unfolding leaf_errors
-returns-in-Utf8-clause-fails c = rw c.in-Utf8.is (if_err_map _ _ (λ e h. inr h) (reported c.check_text.result c.check_text.new.error) c.check_text.ensures.fails)
+returns-in-Utf8-clause-fails c = rw c.in-Utf8.is c.check_text.ensures.fails
 
 pub returns-in-UtcTime-clause-fails : goal.returns-in-UtcTime-clause-fails
 unfolding leaf_errors
-returns-in-UtcTime-clause-fails c = rw c.in-UtcTime.is (if_err_map _ _ (λ e h. inr h) (reported c.check_utc_time.result c.check_utc_time.new.error) c.check_utc_time.ensures.fails)
+returns-in-UtcTime-clause-fails c = rw c.in-UtcTime.is c.check_utc_time.ensures.fails
 
 pub returns-in-GeneralizedTime-clause-fails : goal.returns-in-GeneralizedTime-clause-fails
 unfolding leaf_errors
-returns-in-GeneralizedTime-clause-fails c = rw c.in-GeneralizedTime.is (if_err_map _ _ (λ e h. inr h) (reported c.check_generalized_time.result c.check_generalized_time.new.error) c.check_generalized_time.ensures.fails)
+returns-in-GeneralizedTime-clause-fails c = rw c.in-GeneralizedTime.is c.check_generalized_time.ensures.fails
 
 pub returns-in-Date-clause-fails : goal.returns-in-Date-clause-fails
 unfolding leaf_errors
-returns-in-Date-clause-fails c = rw c.in-Date.is (if_err_map _ _ (λ e h. inr h) (reported c.check_date.result c.check_date.new.error) c.check_date.ensures.fails)
+returns-in-Date-clause-fails c = rw c.in-Date.is c.check_date.ensures.fails
+
+pub returns-in-RelativeOid-clause-reads : goal.returns-in-RelativeOid-clause-reads
+returns-in-RelativeOid-clause-reads c =
+    rw c.in-RelativeOid.is (checks_object c.args.tag c.args.bounds.now c.args.decoder.now _ (reported c.check_arcs-in-RelativeOid.result c.check_arcs-in-RelativeOid.new.error) c.check_arcs-in-RelativeOid.ensures.reads)
+
+pub returns-in-RelativeOid-clause-fails : goal.returns-in-RelativeOid-clause-fails
+unfolding leaf_errors
+returns-in-RelativeOid-clause-fails c =
+    rw c.in-RelativeOid.is c.check_arcs-in-RelativeOid.ensures.fails

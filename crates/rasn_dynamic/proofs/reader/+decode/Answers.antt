@@ -33,7 +33,9 @@ use Rattle.rasn_dynamic.specs.Inside.{DecodesTree, DecodesComponent}
 use Rattle.rasn_dynamic.specs.Making.{Making, outcome, reported}
 use Rattle.rasn_dynamic.specs.Calls.{held, Gathers, names_of, nones, DecodesPresent}
 use Rattle.rasn_dynamic.proofs.Making.{made_as, made_fails_as, choice_exact, if_kept, one_made, choice_made, choice_fits}
-use Rattle.rasn_schema.specs.Fitting.{Fits, IsNumber, AreOctets, EachFits}
+use Rattle.rasn_schema.specs.Fitting.{IsNumber, AreOctets, EachFits}
+use Rattle.rasn_dynamic.specs.Times.{Covers, FitsFromBy, FitsFrom}
+use Rattle.rasn_dynamic.proofs.Times.{covers_itself, covers_after, covers_turns, covers_components, leaf_times}
 use Rattle.rasn_dynamic.proofs.FitsRead.{if_ok, fits_below, each_more, fit_more, fit_end, made_fits, gathered_fit, all_fit, all_left_fit, nones_fit, found_length, found_kept, put_fits}
 use Rattle.rasn_dynamic.proofs.Nothing.{refused_at_zero, refused_not_there}
 use Rattle.rasn_dynamic.proofs.OpenChoice.{lawful_at}
@@ -70,7 +72,7 @@ use Rattle.rasn_dynamic.specs.Calls.{FailsAtNumber}
 use Rattle.rasn_dynamic.specs.LeafErrors.{leaf_errors, unknown_errors, RunsOutOr}
 use Rattle.rasn_dynamic.proofs.LeafErrors.{ends_somewhere}
 use Rattle.rasn_types.specs.Errors.{IsOutOfMemory}
-use Rattle.rasn_schema.specs.Fitting.{FitsBy, IsChosen, AlternativeFits}
+use Rattle.rasn_schema.specs.Fitting.{IsChosen, AlternativeFits}
 use Rattle.rasn_dynamic.proofs.Readers.{unopened, may_count, refused, may_close, unclosed, closed, tagged_contents, sequence_contents, set_contents, list_contents, set_of_contents, inside_held, count_is, holds_others, enclosed_refused, enclosed_read, leaf_read, components_refused, components_put, members_refused, members_put, elements_put, set_of_put}
 
 pub decode_at-returns-in_default-clause-reads : goal.decode_at-returns-in_default-clause-reads
@@ -98,7 +100,7 @@ pub decode_at-returns-in-Ok-clause-reads : goal.decode_at-returns-in-Ok-clause-r
 decode_at-returns-in-Ok-clause-reads g t c = rw (shape_below c.args.types.now.list.now c.args.types.now.levels (c.args.types.now.levels - 1) c.args.id.0 c.in-Some.ty.now (let n = c.in-Some.ensures.0 in omega arith) c.in-Some.ensures.1) c.in-Ok.ensures.reads
 
 pub decode_at-returns-in-Ok-clause-fits : goal.decode_at-returns-in-Ok-clause-fits
-decode_at-returns-in-Ok-clause-fits g t c = λ k. fits_below c.args.types.now.list.now c.args.types.now.levels (c.args.types.now.levels - 1) c.args.id.0 c.in-Some.ty.now _ (let n = c.in-Some.ensures.0 in omega arith) c.in-Some.ensures.1 (c.in-Ok.ensures.fits k)
+decode_at-returns-in-Ok-clause-fits g t c = λ k s v. fits_below s c.args.types.now.list.now c.args.types.now.levels (c.args.types.now.levels - 1) c.args.id.0 c.in-Some.ty.now _ (let n = c.in-Some.ensures.0 in omega arith) c.in-Some.ensures.1 (c.in-Ok.ensures.fits k s v)
 
 pub decode_at-returns-in-Ok-clause-listed : goal.decode_at-returns-in-Ok-clause-listed
 decode_at-returns-in-Ok-clause-listed g t c = value_listed c.args.types.now.list.now c.args.types.now.levels (c.args.types.now.levels - 1) c.args.id.0 c.in-Some.ty.now c.args.decoder.now _ _ (let n = c.in-Some.ensures.0 in omega arith) (sym c.in-Some.ensures.1) c.in-Ok.ensures.listed
@@ -120,32 +122,32 @@ decode_at-returns-in-Err-clause-told g t c =
 pub decode_type-returns-in-Leaf : goal.decode_type-returns-in-Leaf
 decode_type-returns-in-Leaf g t c =
     leaf_read c.args.types.now.list.now c.args.types.now.levels g.M.Made.KEEP c.args.decoder.now c.args.walk.now.spans (outcome c.put_leaf.result c.put_leaf.new.out c.put_leaf.new.error) c.put_leaf.new.decoder c.args.walk.now.fault c.args.ty.now (rw c.in-Leaf.is tt)
-    (rw c.in-Leaf.is c.put_leaf.ensures.reads) (λ k. rw c.in-Leaf.is (c.put_leaf.ensures.fits k)) c.put_leaf.ensures.rules
-    (rw c.in-Leaf.is (ends_somewhere (RunsOutOr (leaf_errors c.in-Leaf.kind c.in-Leaf.tag c.in-Leaf.constraints)) c.args.decoder.now _ _ c.put_leaf.ensures.fails)) c.requires.clear
+    (rw c.in-Leaf.is c.put_leaf.ensures.reads) (λ k s v. rw c.in-Leaf.is (leaf_times s c.in-Leaf.kind c.in-Leaf.tag c.args.decoder.now c.put_leaf.new.decoder _ v (c.put_leaf.ensures.fits k) (c.put_leaf.ensures.offset k))) c.put_leaf.ensures.rules
+    (rw c.in-Leaf.is (ends_somewhere (leaf_errors c.in-Leaf.kind c.in-Leaf.tag c.in-Leaf.constraints) c.args.decoder.now _ _ c.put_leaf.ensures.fails)) c.requires.clear
 
 pub decode_type-returns-in-Enumerated : goal.decode_type-returns-in-Enumerated
 decode_type-returns-in-Enumerated g t c =
     leaf_read c.args.types.now.list.now c.args.types.now.levels g.M.Made.KEEP c.args.decoder.now c.args.walk.now.spans (outcome c.put_number.result c.put_number.new.out c.put_number.new.error) c.put_number.new.decoder c.args.walk.now.fault c.args.ty.now (rw c.in-Enumerated.is tt)
-    (rw (c.in-Enumerated.is, ← c.deref.ensures.value) c.put_number.ensures.reads) (λ k. rw c.in-Enumerated.is (subst (λ l. IfOk (outcome c.put_number.result c.put_number.new.out c.put_number.new.error) (λ v. IsNumber (numbers_of l) v)) c.deref.ensures.value (c.put_number.ensures.fits k))) c.put_number.ensures.rules
+    (rw (c.in-Enumerated.is, ← c.deref.ensures.value) c.put_number.ensures.reads) (λ k s v. rw c.in-Enumerated.is (subst (λ l. IfOk (outcome c.put_number.result c.put_number.new.out c.put_number.new.error) (λ v. IsNumber (numbers_of l) v)) c.deref.ensures.value (c.put_number.ensures.fits k))) c.put_number.ensures.rules
     (rw c.in-Enumerated.is (subst (λ l. IfErr (outcome c.put_number.result c.put_number.new.out c.put_number.new.error) (λ e. (n : State) × FailsAtNumber (numbers_of l) c.in-Enumerated.tag c.args.decoder.now e n)) c.deref.ensures.value
     (ends_somewhere (FailsAtNumber (numbers_of c.deref.result.now) c.in-Enumerated.tag) c.args.decoder.now _ _ c.put_number.ensures.fails))) c.requires.clear
 
 pub decode_type-returns-in-Any : goal.decode_type-returns-in-Any
 decode_type-returns-in-Any g t c =
     leaf_read c.args.types.now.list.now c.args.types.now.levels g.M.Made.KEEP c.args.decoder.now c.args.walk.now.spans (outcome c.put_any.result c.put_any.new.out c.put_any.new.error) c.put_any.new.decoder c.args.walk.now.fault c.args.ty.now (rw c.in-Any.is tt)
-    (rw c.in-Any.is c.put_any.ensures.reads) (λ k. rw c.in-Any.is (c.put_any.ensures.fits k)) c.put_any.ensures.rules
+    (rw c.in-Any.is c.put_any.ensures.reads) (λ k s v. rw c.in-Any.is (c.put_any.ensures.fits k)) c.put_any.ensures.rules
     (rw c.in-Any.is (ends_somewhere (errors_of (BorrowsOpenType c.in-Any.tag)) c.args.decoder.now _ _ c.put_any.ensures.fails)) c.requires.clear
 
 pub decode_type-returns-in-Unknown : goal.decode_type-returns-in-Unknown
 decode_type-returns-in-Unknown g t c =
     leaf_read c.args.types.now.list.now c.args.types.now.levels g.M.Made.KEEP c.args.decoder.now c.args.walk.now.spans (outcome c.put_unknown.result c.put_unknown.new.out c.put_unknown.new.error) c.put_unknown.new.decoder c.args.walk.now.fault c.args.ty.now (rw c.in-Unknown.is tt)
-    (rw c.in-Unknown.is c.put_unknown.ensures.reads) (λ k. rw c.in-Unknown.is (c.put_unknown.ensures.fits k)) c.put_unknown.ensures.rules
+    (rw c.in-Unknown.is c.put_unknown.ensures.reads) (λ k s v. rw c.in-Unknown.is (c.put_unknown.ensures.fits k)) c.put_unknown.ensures.rules
     (rw c.in-Unknown.is (ends_somewhere (RunsOutOr unknown_errors) c.args.decoder.now _ _ c.put_unknown.ensures.fails)) c.requires.clear
 
 pub decode_type-returns-in-Choice : goal.decode_type-returns-in-Choice
 decode_type-returns-in-Choice g t c = record {
   exact = choice_exact (shape_of_type c.args.types.now.list.now c.args.types.now.levels) c.args.ty.now _ c.args.decoder.now (outcome c.decode_choice.result c.decode_choice.new.out c.decode_choice.new.walk.error) _ c.in-Choice.name c.in-Choice.alternatives c.deref-in-Choice.result.now c.as_str.result.now c.in-Choice.is c.deref-in-Choice.ensures.value c.as_str.ensures.value c.decode_choice.ensures.reads c.decode_choice.ensures.unknown;
-  fits = λ k. subst (λ z. IfOk (outcome c.decode_choice.result c.decode_choice.new.out c.decode_choice.new.walk.error) (FitsBy (Fits c.args.types.now.list.now c.args.types.now.levels) z)) (sym c.in-Choice.is) (subst (λ l. IfOk (outcome c.decode_choice.result c.decode_choice.new.out c.decode_choice.new.walk.error) (λ v. IsChosen (AlternativeFits (Fits c.args.types.now.list.now c.args.types.now.levels) l) v)) c.deref-in-Choice.ensures.value (c.decode_choice.ensures.fits k));
+  fits = λ k s v. subst (λ z. IfOk (outcome c.decode_choice.result c.decode_choice.new.out c.decode_choice.new.walk.error) (FitsFromBy s (FitsFrom s c.args.types.now.list.now c.args.types.now.levels) z)) (sym c.in-Choice.is) (subst (λ l. IfOk (outcome c.decode_choice.result c.decode_choice.new.out c.decode_choice.new.walk.error) (λ v. IsChosen (AlternativeFits (FitsFrom s c.args.types.now.list.now c.args.types.now.levels) l) v)) c.deref-in-Choice.ensures.value (c.decode_choice.ensures.fits k s v));
   reads = subst (λ z. Making g.M.Made.KEEP tree_of (DecodesTree (type_by (shape_of_type c.args.types.now.list.now c.args.types.now.levels) z)) c.args.decoder.now (outcome c.decode_choice.result c.decode_choice.new.out c.decode_choice.new.walk.error) c.decode_choice.new.decoder) (sym c.in-Choice.is) (subst (λ l. Making g.M.Made.KEEP tree_of (DecodesTree (choice_among (alternatives_by (shape_of_type c.args.types.now.list.now c.args.types.now.levels) l))) c.args.decoder.now (outcome c.decode_choice.result c.decode_choice.new.out c.decode_choice.new.walk.error) c.decode_choice.new.decoder) c.deref-in-Choice.ensures.value c.decode_choice.ensures.reads);
   told = told_map _ _ (λ k f i. subst (λ n. IsFaultOf c.args.types.now.list.now c.args.types.now.levels n c.args.decoder.now k f) (sym c.in-Choice.is)
       (c.args.decoder.now, refl, subst (λ l. IsFaultIn c.args.types.now.list.now c.args.types.now.levels (IsAlternativeAt (shape_of_type c.args.types.now.list.now c.args.types.now.levels) l c.args.decoder.now) c.args.decoder.now c.args.decoder.now k f) c.deref-in-Choice.ensures.value i)) _ _ c.decode_choice.ensures.told;
@@ -196,7 +198,7 @@ decode_inside-decode_part-requires g t c = λ κs o. (search rules, (search rule
 
 pub decode_inside-returns-in_err-decode_part-in-Tagged : goal.decode_inside-returns-in_err-decode_part-in-Tagged
 decode_inside-returns-in_err-decode_part-in-Tagged g t c =
-    rw (residual _ c.from_residual.ensures.1) (rw c.in-Tagged.is (tagged_contents c.args.types.now.list.now c.args.types.now.levels g.M.Made.KEEP c.args.decoder.now c.args.walk.now.spans (Err c.decode_part.new.walk.error) c.decode_part.new.decoder c.decode_part.new.walk.fault c.decode_part.new.walk.spans _ _ c.in_err-decode_part-in-Tagged.ensures.reads (λ k. tt) c.in_err-decode_part-in-Tagged.ensures.rules c.in_err-decode_part-in-Tagged.ensures.told tt))
+    rw (residual _ c.from_residual.ensures.1) (rw c.in-Tagged.is (tagged_contents c.args.types.now.list.now c.args.types.now.levels g.M.Made.KEEP c.args.decoder.now c.args.walk.now.spans (Err c.decode_part.new.walk.error) c.decode_part.new.decoder c.decode_part.new.walk.fault c.decode_part.new.walk.spans _ _ c.in_err-decode_part-in-Tagged.ensures.reads (λ k s v. tt) c.in_err-decode_part-in-Tagged.ensures.rules c.in_err-decode_part-in-Tagged.ensures.told tt))
 
 pub decode_inside-returns-in_ok-decode_part-in-Tagged : goal.decode_inside-returns-in_ok-decode_part-in-Tagged
 decode_inside-returns-in_ok-decode_part-in-Tagged g t c =
@@ -296,8 +298,8 @@ decode_choice-returns-clause-rules g t c = subst (λ z. IfErr (outcome c.choose.
 pub decode_choice-returns-clause-fits : goal.decode_choice-returns-clause-fits
 decode_choice-returns-clause-fits g t c =
     let at = read_at c.args.alternatives.now c.in-Some.number c.index-alternatives-number.result (slice_get_within c.args.alternatives.now c.in-Some.number c.in-Some.ensures.0 (sym c.in-Some.ensures.1.0)) c.index-alternatives-number.is in
-    choice_fits _ c.in-Some.number c.decode_alternative.new.out _ (outcome c.choose.result c.choose.new.out c.choose.new.error) c.choose.ensures.ok
-    (λ k. (c.index-alternatives-number.result, at, subst (λ (a : Alternative). Fits c.args.types.now.list.now c.args.types.now.levels a.type_id.0 c.decode_alternative.new.out) (sym c.index-alternatives-number.is) (c.in_ok-decode_alternative.ensures.fits k)))
+    λ k s v. choice_fits _ c.in-Some.number c.decode_alternative.new.out (AlternativeFits (FitsFrom s c.args.types.now.list.now c.args.types.now.levels) c.args.alternatives.now) (outcome c.choose.result c.choose.new.out c.choose.new.error) c.choose.ensures.ok
+    (λ k. (c.index-alternatives-number.result, at, subst (λ (a : Alternative). FitsFrom s c.args.types.now.list.now c.args.types.now.levels a.type_id.0 c.decode_alternative.new.out) (sym c.index-alternatives-number.is) (c.in_ok-decode_alternative.ensures.fits k s v))) k
 
 pub decode_choice-returns-clause-reads : goal.decode_choice-returns-clause-reads
 decode_choice-returns-clause-reads g t c =
@@ -357,7 +359,7 @@ decode_innermost-returns-in-Err g t c =
       d.1,
       record {
         reads = d.2.0;
-        fits = λ k. tt;
+        fits = λ k s v. tt;
         rules = d.2.2;
         told = part_named c.args.types.now part _ c.args.decoder.now e _ c.mark_part.ensures.0 _ (λ f i. absurd (not_named _ f i same)) (λ i. d.2.1) d.2.0 (ap length c.remaining-left.ensures.value) c.mark_part.ensures.1 c.mark_part.ensures.2;
         listed = tt;
@@ -377,7 +379,7 @@ decode_elements-loop-element-preserved g t c =
         passes_more (DecodesTree (shape_of_type c.args.types.now.list.now c.args.types.now.levels c.args.element.0)) c.loop-element.decoder _ w.0 c.loop-element-test.ensures w.2
             (λ e. c.in_ok-keep.ensures.appended.1 (e ∙ sym (ap length c.remaining-left.ensures.value))) c.args.decoder.now i.0 _ refl i.3,
       ),
-      (λ k. each_more (Fits c.args.types.now.list.now c.args.types.now.levels c.args.element.0) c.loop-element.values.items _ c.decode_part.new.out (c.in_ok-keep.ensures.appended.0 k) (c.loop-element.invariant.1 k) (c.in_ok-decode_part.ensures.fits k)),
+      (λ k s v. each_more (FitsFrom s c.args.types.now.list.now c.args.types.now.levels c.args.element.0) c.loop-element.values.items _ c.decode_part.new.out (c.in_ok-keep.ensures.appended.0 k) (c.loop-element.invariant.1 k s v) (c.in_ok-decode_part.ensures.fits k s (covers_turns (shape_of_type c.args.types.now.list.now c.args.types.now.levels c.args.element.0) (λ (z : Tree). z) s c.args.decoder.now c.loop-element.decoder i.0 v i.3))),
       c.in_ok-decode_part.ensures.told,
       lists_more (λ b k. PartListed (shape_of_type c.args.types.now.list.now c.args.types.now.levels) c.args.types.now.levels (Inside c.args.types.now.list.now c.args.types.now.levels) c.args.element.0 k b) c.loop-element.count c.args.decoder.now c.loop-element.decoder _ _ _ _ c.loop-element.invariant.3 c.in_ok-decode_part.ensures.listed,
     )
@@ -423,7 +425,7 @@ decode_elements-overflow_add-count g t c =
     omega (arith, l, n, m, c.requires.short)
 
 pub decode_elements-loop-element-init : goal.decode_elements-loop-element-init
-decode_elements-loop-element-init g t c = rw c.requires.empty (([], (λ k. refl), refl, refl), (λ k. tt), c.requires.clear, lists_start (λ b k. PartListed (shape_of_type c.args.types.now.list.now c.args.types.now.levels) c.args.types.now.levels (Inside c.args.types.now.list.now c.args.types.now.levels) c.args.element.0 k b) _ c.args.decoder.now _ refl)
+decode_elements-loop-element-init g t c = rw c.requires.empty (([], (λ k. refl), refl, refl), (λ k s v. tt), c.requires.clear, lists_start (λ b k. PartListed (shape_of_type c.args.types.now.list.now c.args.types.now.levels) c.args.types.now.levels (Inside c.args.types.now.list.now c.args.types.now.levels) c.args.element.0 k b) _ c.args.decoder.now _ refl)
 
 pub decode_elements-returns-clause-told : goal.decode_elements-returns-clause-told
 decode_elements-returns-clause-told g t c = c.loop-element.invariant.2
@@ -441,7 +443,7 @@ pub decode_elements-returns-in_err-keep-clause-rules : goal.decode_elements-retu
 decode_elements-returns-in_err-keep-clause-rules g t c = rw (residual _ c.from_residual-in_err-keep.ensures.1) (c.in_err-keep.ensures.rules ∙ same_rules c.in_ok-decode_part.ensures.reads.2.stays ∙ turn_rules (shape_of_type c.args.types.now.list.now c.args.types.now.levels c.args.element.0) (λ (z : Tree). z) _ _ _ c.loop-element.invariant.0.3)
 
 pub decode_elements_in_order-loop-last-init : goal.decode_elements_in_order-loop-last-init
-decode_elements_in_order-loop-last-init g t c = rw c.requires.empty (([], [], (λ k. refl), refl, (refl, refl), (λ strict. tt), refl), (λ k. tt), c.requires.clear, lists_start (λ b k. PartListed (shape_of_type c.args.types.now.list.now c.args.types.now.levels) c.args.types.now.levels (Inside c.args.types.now.list.now c.args.types.now.levels) c.args.element.0 k b) _ c.args.decoder.now _ refl)
+decode_elements_in_order-loop-last-init g t c = rw c.requires.empty (([], [], (λ k. refl), refl, (refl, refl), (λ strict. tt), refl), (λ k s v. tt), c.requires.clear, lists_start (λ b k. PartListed (shape_of_type c.args.types.now.list.now c.args.types.now.levels) c.args.types.now.levels (Inside c.args.types.now.list.now c.args.types.now.levels) c.args.element.0 k b) _ c.args.decoder.now _ refl)
 
 pub decode_elements_in_order-returns-clause-told : goal.decode_elements_in_order-returns-clause-told
 decode_elements_in_order-returns-clause-told g t c = c.loop-last.invariant.2
@@ -542,7 +544,7 @@ decode_elements_in_order-loop-last-preserved g t c =
         (λ s. in_order i.1 c.loop-last.last.now c.octets_before-octets.result.now (i.5 s) i.6 (not_less s)),
         ends_more i.1 c.octets_before-octets.result.now,
       ),
-      (λ q. each_more (Fits c.args.types.now.list.now c.args.types.now.levels c.args.element.0) c.loop-last.values.items _ c.decode_part.new.out (c.in_ok-keep.ensures.appended.0 q) (c.loop-last.invariant.1 q) (c.in_ok-decode_part.ensures.fits q)),
+      (λ q s v. each_more (FitsFrom s c.args.types.now.list.now c.args.types.now.levels c.args.element.0) c.loop-last.values.items _ c.decode_part.new.out (c.in_ok-keep.ensures.appended.0 q) (c.loop-last.invariant.1 q s v) (c.in_ok-decode_part.ensures.fits q s (covers_turns (shape_of_type c.args.types.now.list.now c.args.types.now.levels c.args.element.0) (λ (z : Tree). z) s c.args.decoder.now c.loop-last.decoder i.0 v (forgotten (DecodesTree (shape_of_type c.args.types.now.list.now c.args.types.now.levels c.args.element.0)) c.args.decoder.now i.0 i.1 c.loop-last.decoder i.4)))),
       c.in_ok-decode_part.ensures.told,
       lists_more (λ b k. PartListed (shape_of_type c.args.types.now.list.now c.args.types.now.levels) c.args.types.now.levels (Inside c.args.types.now.list.now c.args.types.now.levels) c.args.element.0 k b) c.loop-last.count c.args.decoder.now c.loop-last.decoder _ _ _ _ c.loop-last.invariant.3 c.in_ok-decode_part.ensures.listed,
     )
@@ -563,14 +565,14 @@ decode_component-returns-then-is_always_there-clause-reads g t c =
     made_as _ tree_of (DecodesPresent (presence_in (shape_of_type c.args.types.now.list.now c.args.types.now.levels) c.args.component.now) ((shape_of_type c.args.types.now.list.now c.args.types.now.levels) c.args.component.now.type_id.0)) (DecodesComponent (presence_in (shape_of_type c.args.types.now.list.now c.args.types.now.levels) c.args.component.now) ((shape_of_type c.args.types.now.list.now c.args.types.now.levels) c.args.component.now.type_id.0)) c.args.decoder.now _ _ (λ q h. always ((shape_of_type c.args.types.now.list.now c.args.types.now.levels) c.args.component.now.type_id.0) _ (presence_in (shape_of_type c.args.types.now.list.now c.args.types.now.levels) c.args.component.now) (always_by own_tag (key_of ((shape_of_type c.args.types.now.list.now c.args.types.now.levels) c.args.component.now.type_id.0)) c.args.component.now.presence c.if-is_always_there.ensures) q _ h) c.decode_present.ensures.reads
 
 pub decode_component-returns-then-is_always_there-clause-fits : goal.decode_component-returns-then-is_always_there-clause-fits
-decode_component-returns-then-is_always_there-clause-fits g t c = if_kept _ _ _ _ (λ v h. inr h) c.decode_present.ensures.fits
+decode_component-returns-then-is_always_there-clause-fits g t c = λ k s v. if_ok _ _ _ (λ w h. inr h) (c.decode_present.ensures.fits k s v)
 
 pub decode_component-returns-in-Ok-true-clause-reads : goal.decode_component-returns-in-Ok-true-clause-reads
 decode_component-returns-in-Ok-true-clause-reads g t c =
     made_as _ tree_of (DecodesPresent (presence_in (shape_of_type c.args.types.now.list.now c.args.types.now.levels) c.args.component.now) ((shape_of_type c.args.types.now.list.now c.args.types.now.levels) c.args.component.now.type_id.0)) (DecodesComponent (presence_in (shape_of_type c.args.types.now.list.now c.args.types.now.levels) c.args.component.now) ((shape_of_type c.args.types.now.list.now c.args.types.now.levels) c.args.component.now.type_id.0)) c.args.decoder.now _ _ (λ q h. looked ((shape_of_type c.args.types.now.list.now c.args.types.now.levels) c.args.component.now.type_id.0) _ (presence_in (shape_of_type c.args.types.now.list.now c.args.types.now.levels) c.args.component.now) (λ a. c.if-is_always_there.ensures (always_by (key_of ((shape_of_type c.args.types.now.list.now c.args.types.now.levels) c.args.component.now.type_id.0)) own_tag c.args.component.now.presence a)) (let w = c.in-Ok-true.field-0-test in let h : c.in-Ok-true.field-0 ≡ true = cc in next_of (key_of ((shape_of_type c.args.types.now.list.now c.args.types.now.levels) c.args.component.now.type_id.0)) ((shape_of_type c.args.types.now.list.now c.args.types.now.levels) c.args.component.now.type_id.0) c.args.component.now.presence c.args.decoder.now (Ok true) c.if-is_always_there.ensures (subst (λ b. NextIs (sought_by (key_of ((shape_of_type c.args.types.now.list.now c.args.types.now.levels) c.args.component.now.type_id.0)) ((shape_of_type c.args.types.now.list.now c.args.types.now.levels) c.args.component.now.type_id.0)) c.args.decoder.now (Ok b)) h c.in-Ok-true.ensures)) q _ h) c.decode_present-in-Ok-true.ensures.reads
 
 pub decode_component-returns-in-Ok-true-clause-fits : goal.decode_component-returns-in-Ok-true-clause-fits
-decode_component-returns-in-Ok-true-clause-fits g t c = if_kept _ _ _ _ (λ v h. inr h) c.decode_present-in-Ok-true.ensures.fits
+decode_component-returns-in-Ok-true-clause-fits g t c = λ k s v. if_ok _ _ _ (λ w h. inr h) (c.decode_present-in-Ok-true.ensures.fits k s v)
 
 pub decode_component-put_missing-requires : goal.decode_component-put_missing-requires
 decode_component-put_missing-requires g t c = not_required c.args.component.now.presence c.if-is_always_there.ensures
@@ -579,7 +581,7 @@ pub decode_component-returns-in-Ok-false-clause-reads : goal.decode_component-re
 decode_component-returns-in-Ok-false-clause-reads g t c = made ((shape_of_type c.args.types.now.list.now c.args.types.now.levels) c.args.component.now.type_id.0) _ _ (presence_in (shape_of_type c.args.types.now.list.now c.args.types.now.levels) c.args.component.now) (λ a. c.if-is_always_there.ensures (always_by (key_of ((shape_of_type c.args.types.now.list.now c.args.types.now.levels) c.args.component.now.type_id.0)) own_tag c.args.component.now.presence a)) (let w = c.in-Ok-false.field-0-test in let h : c.in-Ok-false.field-0 ≡ false = cc in next_of (key_of ((shape_of_type c.args.types.now.list.now c.args.types.now.levels) c.args.component.now.type_id.0)) ((shape_of_type c.args.types.now.list.now c.args.types.now.levels) c.args.component.now.type_id.0) c.args.component.now.presence c.args.decoder.now (Ok false) c.if-is_always_there.ensures (subst (λ b. NextIs (sought_by (key_of ((shape_of_type c.args.types.now.list.now c.args.types.now.levels) c.args.component.now.type_id.0)) ((shape_of_type c.args.types.now.list.now c.args.types.now.levels) c.args.component.now.type_id.0)) c.args.decoder.now (Ok b)) h c.in-Ok-false.ensures)) _ (made_of _ (key_of ((shape_of_type c.args.types.now.list.now c.args.types.now.levels) c.args.component.now.type_id.0)) c.args.component.now.presence c.args.decoder.now _ c.put_missing.ensures.made)
 
 pub decode_component-returns-in-Ok-false-clause-fits : goal.decode_component-returns-in-Ok-false-clause-fits
-decode_component-returns-in-Ok-false-clause-fits g t c = λ k. made_fits (Fits c.args.types.now.list.now c.args.types.now.levels) _ k c.args.component.now c.args.decoder.now _ c.put_missing.ensures.made
+decode_component-returns-in-Ok-false-clause-fits g t c = λ k s v. made_fits (FitsFrom s c.args.types.now.list.now c.args.types.now.levels) _ k c.args.component.now c.args.decoder.now _ c.put_missing.ensures.made
 
 pub decode_component-returns-in-Err-clause-reads : goal.decode_component-returns-in-Err-clause-reads
 decode_component-returns-in-Err-clause-reads g t c = unread ((shape_of_type c.args.types.now.list.now c.args.types.now.levels) c.args.component.now.type_id.0) _ (presence_in (shape_of_type c.args.types.now.list.now c.args.types.now.levels) c.args.component.now) (λ a. c.if-is_always_there.ensures (always_by (key_of ((shape_of_type c.args.types.now.list.now c.args.types.now.levels) c.args.component.now.type_id.0)) own_tag c.args.component.now.presence a)) c.follows.new.error (next_of (key_of ((shape_of_type c.args.types.now.list.now c.args.types.now.levels) c.args.component.now.type_id.0)) ((shape_of_type c.args.types.now.list.now c.args.types.now.levels) c.args.component.now.type_id.0) c.args.component.now.presence c.args.decoder.now (Err c.follows.new.error) c.if-is_always_there.ensures c.in-Err.ensures)
@@ -646,7 +648,7 @@ decode_compared-returns-in-None-clause-reads g t c =
     subst (λ k. Making k tree_of (DecodesTree s) c.args.decoder.now (outcome c.decode_part.result c.decode_part.new.out c.decode_part.new.walk.error) c.decode_part.new.decoder) w.0 (subst (λ z. Making g.M.Made.KEEP tree_of (DecodesTree s) z (outcome c.decode_part.result c.decode_part.new.out c.decode_part.new.walk.error) c.decode_part.new.decoder) w.1 c.decode_part.ensures.reads)
 
 pub decode_compared-returns-in-None-clause-fits : goal.decode_compared-returns-in-None-clause-fits
-decode_compared-returns-in-None-clause-fits g t c = c.decode_part.ensures.fits c.in-None.ensures.reads.0
+decode_compared-returns-in-None-clause-fits g t c = λ s v. c.decode_part.ensures.fits c.in-None.ensures.reads.0 s (subst (Covers s) (sym c.in-None.ensures.reads.1) v)
 
 pub decode_compared-returns-in-None-clause-rules : goal.decode_compared-returns-in-None-clause-rules
 decode_compared-returns-in-None-clause-rules g t c = subst (λ (z : State). IfErr (outcome c.decode_part.result c.decode_part.new.out c.decode_part.new.walk.error) (λ e. e.codec ≡ z.rule)) c.in-None.ensures.reads.1 c.decode_part.ensures.rules
@@ -664,10 +666,10 @@ pub decode_components-put_all_absent-requires : goal.decode_components-put_all_a
 decode_components-put_all_absent-requires g t c = c.if-leaves_all_out.ensures.0
 
 pub decode_components-returns-then-leaves_all_out-clause-fits : goal.decode_components-returns-then-leaves_all_out-clause-fits
-decode_components-returns-then-leaves_all_out-clause-fits g t c = λ k. all_left_fit (Fits c.args.types.now.list.now c.args.types.now.levels) c.args.components.now _ (c.put_all_absent.ensures.settled k)
+decode_components-returns-then-leaves_all_out-clause-fits g t c = λ k s v. all_left_fit (FitsFrom s c.args.types.now.list.now c.args.types.now.levels) c.args.components.now _ (c.put_all_absent.ensures.settled k)
 
 pub decode_components-loop-rest-init : goal.decode_components-loop-rest-init
-decode_components-loop-rest-init g t c = rw c.requires.empty (([], (λ k. refl), parts_start _ _), c.requires.lawful, (λ k us h. h), c.requires.clear, [], refl, refl, lists_start (λ b. ComponentAt (shape_of_type c.args.types.now.list.now c.args.types.now.levels) c.args.types.now.levels (Inside c.args.types.now.list.now c.args.types.now.levels) c.args.components.now b) _ c.args.decoder.now _ refl)
+decode_components-loop-rest-init g t c = rw c.requires.empty (([], (λ k. refl), parts_start _ _), c.requires.lawful, (λ k s v us h. h), c.requires.clear, [], refl, refl, lists_start (λ b. ComponentAt (shape_of_type c.args.types.now.list.now c.args.types.now.levels) c.args.types.now.levels (Inside c.args.types.now.list.now c.args.types.now.levels) c.args.components.now b) _ c.args.decoder.now _ refl)
 
 pub decode_components-overflow_sub-index : goal.decode_components-overflow_sub-index
 decode_components-overflow_sub-index g t c =
@@ -699,7 +701,7 @@ decode_components-loop-rest-preserved g t c =
         parts_more _ _ _ (presence_in (shape_of_type c.args.types.now.list.now c.args.types.now.levels) c.component-item.result) ((shape_of_type c.args.types.now.list.now c.args.types.now.levels) c.component-item.result.type_id.0) _ _ _ i.2 e w.0 _ _ refl w.2,
       ),
       (subst AreReadable e c.loop-rest.invariant.1).1,
-      (λ k. fit_more (Fits c.args.types.now.list.now c.args.types.now.levels) _ _ _ c.component-item.result c.loop-rest.values.items _ c.decode_component.new.out (c.loop-rest.invariant.2 k) at (c.in_ok-take.ensures.ok k) (c.in_ok-decode_component.ensures.fits k)),
+      (λ k s v. fit_more (FitsFrom s c.args.types.now.list.now c.args.types.now.levels) _ _ _ c.component-item.result c.loop-rest.values.items _ c.decode_component.new.out (c.loop-rest.invariant.2 k s v) at (c.in_ok-take.ensures.ok k) (c.in_ok-decode_component.ensures.fits k s (covers_components (shape_of_type c.args.types.now.list.now c.args.types.now.levels) c.loop-rest.invariant.4 s c.args.decoder.now c.loop-rest.decoder v c.loop-rest.invariant.6))),
       c.in_ok-decode_component.ensures.told,
       c.loop-rest.invariant.4 ++ c.component-item.result ∷ [],
       c.loop-rest.invariant.5 ∙ ap (λ l. c.loop-rest.invariant.4 ++ l) at ∙ sym (append_assoc c.loop-rest.invariant.4 (c.component-item.result ∷ []) _),
@@ -719,7 +721,7 @@ decode_components-returns-clause-reads g t c =
     )
 
 pub decode_components-returns-clause-fits : goal.decode_components-returns-clause-fits
-decode_components-returns-clause-fits g t c = λ k. fit_end (Fits c.args.types.now.list.now c.args.types.now.levels) _ _ _ (c.loop-rest.invariant.2 k) (nothing_left _ c.in_default.len_below)
+decode_components-returns-clause-fits g t c = λ k s v. fit_end (FitsFrom s c.args.types.now.list.now c.args.types.now.levels) _ _ _ (c.loop-rest.invariant.2 k s v) (nothing_left _ c.in_default.len_below)
 
 pub decode_components-returns-then-leaves_all_out-clause-fails : goal.decode_components-returns-then-leaves_all_out-clause-fails
 decode_components-returns-then-leaves_all_out-clause-fails g t c = if_err_map _ _ (λ e m. inr m) (outcome c.put_all_absent.result c.put_all_absent.new.values c.put_all_absent.new.error) c.put_all_absent.ensures.memory
@@ -748,7 +750,7 @@ decode_set_components-loop-last-init g t c = (
     none_read c.args.members.now.extensible (components_by (shape_of_type c.args.types.now.list.now c.args.types.now.levels) c.args.members.now.components.now) (names_of c.args.members.now.components.now) _ _ [] (nones_come (shape_of_type c.args.types.now.list.now c.args.types.now.levels) c.args.members.now.components.now (nones c.args.members.now.components.now) refl) refl,
     (λ x. refl),
   ),
-  nones_fit _ c.args.members.now.components.now _ c.requires.none,
+  (λ s v. nones_fit _ c.args.members.now.components.now _ c.requires.none),
   (λ k. subst (EachFits AreOctets) (sym c.new-unknown.ensures.items) tt),
   c.requires.clear,
   0,
@@ -786,7 +788,7 @@ decode_set_components-loop-last-preserved g t c =
         rw c.or-twice.ensures (next_passes c.args.members.now.extensible (components_by (shape_of_type c.args.types.now.list.now c.args.types.now.levels) c.args.members.now.components.now) (names_of c.args.members.now.components.now) c.args.decoder.now at.decoder at.last at.twice _ _ i.4 c.loop-last-test.ensures _ c.in_ok-last.ensures _ _ _ _ w.4),
         none_unknown c.args.members.now.extensible (components_by (shape_of_type c.args.types.now.list.now c.args.types.now.levels) c.args.members.now.components.now) (names_of c.args.members.now.components.now) i.0 w.0 i.1 w.1 at.decoder _ _ w.4 i.5,
       ),
-      c.in_ok-next.ensures.found,
+      (λ s v. c.in_ok-next.ensures.found s (covers_after s c.args.decoder.now at.decoder v (members_keep c.args.members.now.extensible (components_by (shape_of_type c.args.types.now.list.now c.args.types.now.levels) c.args.members.now.components.now) (names_of c.args.members.now.components.now) c.args.decoder.now at.decoder at.last i.0 i.1 at.twice i.4)) (at.invariant.1 s v)),
       (λ k. c.in_ok-next.ensures.octets k (at.invariant.2 k)),
       c.in_ok-next.ensures.told,
       at.invariant.4 + 1,
@@ -804,8 +806,11 @@ decode_set_components-returns-in-Some-clause-exact g t c =
     (subst (λ z. ReadTo c.args.members.now.extensible ps names c.args.decoder.now at.decoder at.last z i.0 i.1) h i.4) _
     (subst (λ z. IsNamedError (IsDuplicateField (text c.in-Some.repeated)) z c.duplicate_field.result) c.codec.ensures c.duplicate_field.ensures))
 
+pub decode_set_components-decode_set_component-requires : goal.decode_set_components-decode_set_component-requires
+decode_set_components-decode_set_component-requires g t c = λ κs o. (search rules, (search rules, (c.requires.lawful, (found_length _ c.args.members.now.components.now _ (c.loop-last.invariant.1 c.args.decoder.now (covers_itself c.args.decoder.now)), (c.loop-last.invariant.3, c.requires.other)))))
+
 pub decode_set_components-gather-requires : goal.decode_set_components-gather-requires
-decode_set_components-gather-requires g t c = found_length _ c.args.members.now.components.now _ c.loop-last.invariant.1
+decode_set_components-gather-requires g t c = found_length _ c.args.members.now.components.now _ (c.loop-last.invariant.1 c.args.decoder.now (covers_itself c.args.decoder.now))
 
 pub decode_set_components-returns-in_err-values-clause-exact : goal.decode_set_components-returns-in_err-values-clause-exact
 decode_set_components-returns-in_err-values-clause-exact g t c =
@@ -835,7 +840,7 @@ decode_set_components-returns-clause-exact g t c =
     let ps = components_by (shape_of_type c.args.types.now.list.now c.args.types.now.levels) c.args.members.now.components.now in
     let names = names_of c.args.members.now.components.now in
     let h : at.twice ≡ None = search rules in
-    let m = made_parts _ (shape_of_type c.args.types.now.list.now c.args.types.now.levels) c.args.members.now.components.now at.decoder.rule at.found.items i.0 c.in_ok-values.values (found_length _ c.args.members.now.components.now _ at.invariant.1) i.2 (subst (λ z. Gathers g.M.Made.KEEP c.args.members.now.components.now c.loop-last.decoder.rule c.loop-last.found.items z) (sym c.in_ok-values.ensures) c.gather.ensures.gathers) in (
+    let m = made_parts _ (shape_of_type c.args.types.now.list.now c.args.types.now.levels) c.args.members.now.components.now at.decoder.rule at.found.items i.0 c.in_ok-values.values (found_length _ c.args.members.now.components.now _ (at.invariant.1 c.args.decoder.now (covers_itself c.args.decoder.now))) i.2 (subst (λ z. Gathers g.M.Made.KEEP c.args.members.now.components.now c.loop-last.decoder.rule c.loop-last.found.items z) (sym c.in_ok-values.ensures) c.gather.ensures.gathers) in (
       set_trees c.args.members.now.extensible m.0 i.1,
       all_trees c.args.members.now.extensible _ c.in_ok-values.values.items c.take.new.values.items m.0 i.1 at.unknown m.1 i.3 (λ e k. c.in_ok-take.ensures.ok k) (λ e. absurd (true≢false (sym on ∙ e))),
       members_made c.args.members.now.extensible ps names c.args.decoder.now at.decoder at.last i.0 i.1 c.loop-last-test.ensures (subst (λ z. ReadTo c.args.members.now.extensible ps names c.args.decoder.now at.decoder at.last z i.0 i.1) h i.4) m.0 m.2 i.5,
@@ -849,26 +854,26 @@ decode_set_components-returns-then-not-members-clause-exact g t c =
     let ps = components_by (shape_of_type c.args.types.now.list.now c.args.types.now.levels) c.args.members.now.components.now in
     let names = names_of c.args.members.now.components.now in
     let h : at.twice ≡ None = search rules in
-    let m = made_parts _ (shape_of_type c.args.types.now.list.now c.args.types.now.levels) c.args.members.now.components.now at.decoder.rule at.found.items i.0 c.in_ok-values.values (found_length _ c.args.members.now.components.now _ at.invariant.1) i.2 (subst (λ z. Gathers g.M.Made.KEEP c.args.members.now.components.now c.loop-last.decoder.rule c.loop-last.found.items z) (sym c.in_ok-values.ensures) c.gather.ensures.gathers) in (
+    let m = made_parts _ (shape_of_type c.args.types.now.list.now c.args.types.now.levels) c.args.members.now.components.now at.decoder.rule at.found.items i.0 c.in_ok-values.values (found_length _ c.args.members.now.components.now _ (at.invariant.1 c.args.decoder.now (covers_itself c.args.decoder.now))) i.2 (subst (λ z. Gathers g.M.Made.KEEP c.args.members.now.components.now c.loop-last.decoder.rule c.loop-last.found.items z) (sym c.in_ok-values.ensures) c.gather.ensures.gathers) in (
       set_trees c.args.members.now.extensible m.0 i.1,
       all_trees c.args.members.now.extensible _ c.in_ok-values.values.items c.in_ok-values.values.items m.0 i.1 at.unknown m.1 i.3 (λ e k. absurd (true≢false (sym e ∙ off))) (λ e. refl),
       members_made c.args.members.now.extensible ps names c.args.decoder.now at.decoder at.last i.0 i.1 c.loop-last-test.ensures (subst (λ z. ReadTo c.args.members.now.extensible ps names c.args.decoder.now at.decoder at.last z i.0 i.1) h i.4) m.0 m.2 i.5,
     )
 
 pub decode_set_components-returns-clause-fits : goal.decode_set_components-returns-clause-fits
-decode_set_components-returns-clause-fits g t c = λ k.
+decode_set_components-returns-clause-fits g t c = λ k s v.
     let at = c.loop-last in
     let on : c.args.members.now.extensible ≡ true = search rules in
-    all_fit (Fits c.args.types.now.list.now c.args.types.now.levels) c.args.members.now.extensible c.args.members.now.components.now c.in_ok-values.values.items c.take.new.values.items at.unknown
-    (gathered_fit (Fits c.args.types.now.list.now c.args.types.now.levels) g.M.Made.KEEP k c.args.members.now.components.now at.decoder.rule at.found.items (Ok c.in_ok-values.values) (found_kept g.M.Made.KEEP (Fits c.args.types.now.list.now c.args.types.now.levels) k c.args.members.now.components.now at.found.items at.invariant.1) (subst (λ z. Gathers g.M.Made.KEEP c.args.members.now.components.now c.loop-last.decoder.rule c.loop-last.found.items z) (sym c.in_ok-values.ensures) c.gather.ensures.gathers))
+    all_fit (FitsFrom s c.args.types.now.list.now c.args.types.now.levels) c.args.members.now.extensible c.args.members.now.components.now c.in_ok-values.values.items c.take.new.values.items at.unknown
+    (gathered_fit (FitsFrom s c.args.types.now.list.now c.args.types.now.levels) g.M.Made.KEEP k c.args.members.now.components.now at.decoder.rule at.found.items (Ok c.in_ok-values.values) (found_kept g.M.Made.KEEP (FitsFrom s c.args.types.now.list.now c.args.types.now.levels) k c.args.members.now.components.now at.found.items (at.invariant.1 s v)) (subst (λ z. Gathers g.M.Made.KEEP c.args.members.now.components.now c.loop-last.decoder.rule c.loop-last.found.items z) (sym c.in_ok-values.ensures) c.gather.ensures.gathers))
     (at.invariant.2 k) (λ e. c.in_ok-take.ensures.ok k) (λ e. absurd (true≢false (sym on ∙ e)))
 
 pub decode_set_components-returns-then-not-members-clause-fits : goal.decode_set_components-returns-then-not-members-clause-fits
-decode_set_components-returns-then-not-members-clause-fits g t c = λ k.
+decode_set_components-returns-then-not-members-clause-fits g t c = λ k s v.
     let at = c.loop-last in
     let off : c.args.members.now.extensible ≡ false = search rules in
-    all_fit (Fits c.args.types.now.list.now c.args.types.now.levels) c.args.members.now.extensible c.args.members.now.components.now c.in_ok-values.values.items c.in_ok-values.values.items at.unknown
-    (gathered_fit (Fits c.args.types.now.list.now c.args.types.now.levels) g.M.Made.KEEP k c.args.members.now.components.now at.decoder.rule at.found.items (Ok c.in_ok-values.values) (found_kept g.M.Made.KEEP (Fits c.args.types.now.list.now c.args.types.now.levels) k c.args.members.now.components.now at.found.items at.invariant.1) (subst (λ z. Gathers g.M.Made.KEEP c.args.members.now.components.now c.loop-last.decoder.rule c.loop-last.found.items z) (sym c.in_ok-values.ensures) c.gather.ensures.gathers))
+    all_fit (FitsFrom s c.args.types.now.list.now c.args.types.now.levels) c.args.members.now.extensible c.args.members.now.components.now c.in_ok-values.values.items c.in_ok-values.values.items at.unknown
+    (gathered_fit (FitsFrom s c.args.types.now.list.now c.args.types.now.levels) g.M.Made.KEEP k c.args.members.now.components.now at.decoder.rule at.found.items (Ok c.in_ok-values.values) (found_kept g.M.Made.KEEP (FitsFrom s c.args.types.now.list.now c.args.types.now.levels) k c.args.members.now.components.now at.found.items (at.invariant.1 s v)) (subst (λ z. Gathers g.M.Made.KEEP c.args.members.now.components.now c.loop-last.decoder.rule c.loop-last.found.items z) (sym c.in_ok-values.ensures) c.gather.ensures.gathers))
     (at.invariant.2 k) (λ e. absurd (true≢false (sym e ∙ off))) (λ e. refl)
 
 pub decode_set_components-returns-in_err-values-clause-rules : goal.decode_set_components-returns-in_err-values-clause-rules
@@ -928,18 +933,18 @@ decode_set_component-returns-then-remaining-left-clause-next g t c =
     _ (ap length c.remaining-left.ensures.value) (sym (ap length c.remaining.ensures.value) ∙ c.if-remaining-left.true) c.refuse_extra.new.error c.refuse_extra.ensures
 
 pub decode_set_component-put-requires : goal.decode_set_component-put-requires
-decode_set_component-put-requires g t c = rw (found_length _ c.args.members.now.components.now _ c.requires.found) (got_below c.args.members.now.components.now c.in-Some.number c.in-Some.component.now c.in-Some.ensures.0)
+decode_set_component-put-requires g t c = rw c.requires.room (got_below c.args.members.now.components.now c.in-Some.number c.in-Some.component.now c.in-Some.ensures.0)
 
 pub decode_set_component-returns-clause-next : goal.decode_set_component-returns-clause-next
 decode_set_component-returns-clause-next g t c =
     let w = c.in_ok-decode_present.ensures.reads in
     member_put (shape_of_type c.args.types.now.list.now c.args.types.now.levels) c.args.members.now.components.now c.in-Some.number c.in-Some.component.now c.in_ok-tag.tag c.requires.lawful c.in-Some.ensures _ _ c.in_ok-tag.ensures.next _ c.args.members.now.extensible c.args.found.now.items c.args.unknown.now.items w.0 w.2
-    c.decode_present.new.out w.1 (rw (found_length _ c.args.members.now.components.now _ c.requires.found) (got_below c.args.members.now.components.now c.in-Some.number c.in-Some.component.now c.in-Some.ensures.0)) _ (ap length c.remaining-left.ensures.value)
+    c.decode_present.new.out w.1 (rw c.requires.room (got_below c.args.members.now.components.now c.in-Some.number c.in-Some.component.now c.in-Some.ensures.0)) _ (ap length c.remaining-left.ensures.value)
     (λ e. c.if-remaining-left.false (ap length c.remaining.ensures.value ∙ e)) _ _ (rw (← c.as_str.ensures.value) c.put.ensures)
 
 pub decode_set_component-returns-clause-found : goal.decode_set_component-returns-clause-found
-decode_set_component-returns-clause-found g t c =
-    put_fits _ c.args.members.now.components.now c.args.found.now.items _ c.in-Some.number c.in-Some.component.now c.decode_present.new.out _ _ c.requires.found c.in-Some.ensures.0 c.in_ok-decode_present.ensures.fits c.put.ensures
+decode_set_component-returns-clause-found g t c = λ s v h.
+    put_fits _ c.args.members.now.components.now c.args.found.now.items _ c.in-Some.number c.in-Some.component.now c.decode_present.new.out _ _ h c.in-Some.ensures.0 (λ k. c.in_ok-decode_present.ensures.fits k s v) c.put.ensures
 
 pub decode_set_component-returns-in_err-tag-clause-rules : goal.decode_set_component-returns-in_err-tag-clause-rules
 decode_set_component-returns-in_err-tag-clause-rules g t c = rw (residual _ c.from_residual.ensures.1) (peek_rules c.args.decoder.now _ c.in_err-tag.ensures.exact)
@@ -1303,7 +1308,7 @@ put_components-decode_components-requires g t c = λ κs o. (search rules, (sear
 pub put_components-returns-in_err-values : goal.put_components-returns-in_err-values
 put_components-returns-in_err-values g t c = rw (residual _ c.from_residual.ensures.1) (record {
   exact = (sequence_runs_out _ _ c.list_for.new.error c.in_err-values.ensures.kind, inr c.in_err-values.ensures.kind);
-  fits = λ k. tt;
+  fits = λ k s v. tt;
   rules = c.in_err-values.ensures.rules;
   told = λ x q. absurd (not_named _ x q c.requires.clear);
   itself = λ n. inl c.in_err-values.ensures.kind;
@@ -1326,7 +1331,7 @@ put_elements-decode_elements-requires g t c = λ κs o. (search rules, (search r
 pub put_elements-returns-in_err-count : goal.put_elements-returns-in_err-count
 put_elements-returns-in_err-count g t c = rw (residual _ c.from_residual.ensures.1) (record {
   exact = c.in_err-count.ensures.reads;
-  fits = λ k. tt;
+  fits = λ k s v. tt;
   rules = c.in_err-count.ensures.rules;
   told = c.in_err-count.ensures.told;
   itself = c.in_err-count.ensures.itself;
@@ -1343,7 +1348,7 @@ put_elements_in_order-decode_elements_in_order-requires g t c = λ κs o. (searc
 pub put_elements_in_order-returns-in_err-count : goal.put_elements_in_order-returns-in_err-count
 put_elements_in_order-returns-in_err-count g t c = rw (residual _ c.from_residual.ensures.1) (record {
   exact = c.in_err-count.ensures.reads;
-  fits = λ k. tt;
+  fits = λ k s v. tt;
   rules = c.in_err-count.ensures.rules;
   told = c.in_err-count.ensures.told;
   itself = c.in_err-count.ensures.itself;
@@ -1374,7 +1379,7 @@ put_set_components-decode_set_components-requires g t c = λ κs o. (
 pub put_set_components-returns-in_err-found : goal.put_set_components-returns-in_err-found
 put_set_components-returns-in_err-found g t c = rw (residual _ c.from_residual.ensures.1) (record {
   exact = inr ((subst (λ z. IfErr z (λ e. IsOutOfMemory e.kind)) (sym c.in_err-found.ensures) c.no_components.ensures.err), kept c.args.decoder.now);
-  fits = λ k. tt;
+  fits = λ k s v. tt;
   rules = subst (λ z. IfErr z (λ e. e.codec ≡ c.args.decoder.now.rule)) (sym c.in_err-found.ensures) c.no_components.ensures.rules;
   told = λ x q. absurd (not_named _ x q c.requires.clear);
   itself = λ n. inl (subst (λ z. IfErr z (λ e. IsOutOfMemory e.kind)) (sym c.in_err-found.ensures) c.no_components.ensures.err);

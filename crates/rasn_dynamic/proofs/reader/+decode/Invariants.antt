@@ -11,7 +11,9 @@ use Rattle.rasn_schema.specs.Trees.{tree_of}
 use Rattle.rasn_schema.specs.Shapes.{shape_of_type, components_by, AreReadable}
 use Rattle.rasn_dynamic.specs.Inside.{DecodesTree}
 use Rattle.rasn_dynamic.specs.Calls.{names_of, HoldsSlots}
-use Rattle.rasn_schema.specs.Fitting.{Fits, EachFits, AreOctets}
+use Rattle.rasn_schema.specs.Fitting.{EachFits, AreOctets}
+use Rattle.rasn_de.specs.State.{State}
+use Rattle.rasn_dynamic.specs.Times.{Covers, FitsFrom}
 use Rattle.rasn_dynamic.specs.Sets.{HoldsUnknown}
 use Rattle.rasn_dynamic.specs.Found.{FoundFit}
 use Rattle.rasn_dynamic.specs.Listed.{Lists, Inside, InTurn, PartListed, ComponentAt, MemberListed}
@@ -66,7 +68,7 @@ decreases-decode_set_component g l = 32 * l.types.now.levels + 17
 
 abbrev pub invariant-decode_elements-loop-element : goal.invariant-decode_elements-loop-element
 invariant-decode_elements-loop-element g l = ((ts : List Tree) × (g.M.Made.KEEP ≡ true → map tree_of l.values.items ≡ ts) × (l.count ≡ length ts) × DecodesInTurn (DecodesTree (shape_of_type l.types.list.now l.types.levels l.element.0)) l.fn.decoder ts l.decoder)
-    × (g.M.Made.KEEP ≡ true → EachFits (Fits l.types.list.now l.types.levels l.element.0) l.values.items) × (l.walk.fault ≡ None)
+    × (g.M.Made.KEEP ≡ true → (s : State) → Covers s l.fn.decoder → EachFits (FitsFrom s l.types.list.now l.types.levels l.element.0) l.values.items) × (l.walk.fault ≡ None)
     × Lists (λ b es. InTurn (λ k. PartListed (shape_of_type l.types.list.now l.types.levels) l.types.levels (Inside l.types.list.now l.types.levels) l.element.0 k b) l.count l.fn.decoder l.decoder es) l.fn.walk.spans l.walk.spans
 
 abbrev pub decreases-decode_elements-loop-element : goal.decreases-decode_elements-loop-element
@@ -75,7 +77,7 @@ decreases-decode_elements-loop-element g l = length l.decoder.rest
 abbrev pub invariant-decode_elements_in_order-loop-last : goal.invariant-decode_elements_in_order-loop-last
 invariant-decode_elements_in_order-loop-last g l = ((ts : List Tree) × (bs : List (List ℕ)) × (g.M.Made.KEEP ≡ true → map tree_of l.values.items ≡ ts) × (l.count ≡ length ts)
     × DecodesInTurnFrom (DecodesTree (shape_of_type l.types.list.now l.types.levels l.element.0)) l.fn.decoder ts bs l.decoder × (IsStrict l.fn.decoder.rule → AreAscending IsLess bs) × EndsBy bs l.last)
-    × (g.M.Made.KEEP ≡ true → EachFits (Fits l.types.list.now l.types.levels l.element.0) l.values.items) × (l.walk.fault ≡ None)
+    × (g.M.Made.KEEP ≡ true → (s : State) → Covers s l.fn.decoder → EachFits (FitsFrom s l.types.list.now l.types.levels l.element.0) l.values.items) × (l.walk.fault ≡ None)
     × Lists (λ b es. InTurn (λ k. PartListed (shape_of_type l.types.list.now l.types.levels) l.types.levels (Inside l.types.list.now l.types.levels) l.element.0 k b) l.count l.fn.decoder l.decoder es) l.fn.walk.spans l.walk.spans
 
 abbrev pub decreases-decode_elements_in_order-loop-last : goal.decreases-decode_elements_in_order-loop-last
@@ -84,7 +86,7 @@ decreases-decode_elements_in_order-loop-last g l = length l.decoder.rest
 abbrev pub invariant-decode_components-loop-rest : goal.invariant-decode_components-loop-rest
 invariant-decode_components-loop-rest g l = ((ts : List Tree) × (g.M.Made.KEEP ≡ true → map tree_of l.values.items ≡ ts)
     × PartsSoFar (components_by (shape_of_type l.types.list.now l.types.levels) l.components) (components_by (shape_of_type l.types.list.now l.types.levels) l.rest) ts l.fn.decoder l.decoder)
-    × AreReadable (components_by (shape_of_type l.types.list.now l.types.levels) l.rest) × (g.M.Made.KEEP ≡ true → FitSoFar (Fits l.types.list.now l.types.levels) l.components l.rest l.values.items) × (l.walk.fault ≡ None)
+    × AreReadable (components_by (shape_of_type l.types.list.now l.types.levels) l.rest) × (g.M.Made.KEEP ≡ true → (s : State) → Covers s l.fn.decoder → FitSoFar (FitsFrom s l.types.list.now l.types.levels) l.components l.rest l.values.items) × (l.walk.fault ≡ None)
     × (done : List Component) × (l.components ≡ done ++ l.rest) × ComponentsInTurn (shape_of_type l.types.list.now l.types.levels) done l.fn.decoder l.decoder
     × Lists (λ b es. InTurn (ComponentAt (shape_of_type l.types.list.now l.types.levels) l.types.levels (Inside l.types.list.now l.types.levels) l.components b) (length done) l.fn.decoder l.decoder es) l.fn.walk.spans l.walk.spans
 
@@ -94,7 +96,7 @@ decreases-decode_components-loop-rest g l = length l.rest
 abbrev pub invariant-decode_set_components-loop-last : goal.invariant-decode_set_components-loop-last
 invariant-decode_set_components-loop-last g l = ((slots : List (Option Tree)) × (us : List Tree) × HoldsSlots g.M.Made.KEEP l.found.items slots × HoldsUnknown g.M.Made.KEEP l.unknown.items us
     × ReadTo l.members.extensible (components_by (shape_of_type l.types.list.now l.types.levels) l.members.components.now) (names_of l.members.components.now) l.fn.decoder l.decoder l.last l.twice slots us × (l.members.extensible ≡ false → us ≡ []))
-    × FoundFit (λ k v. g.M.Made.KEEP ≡ true → Fits l.types.list.now l.types.levels k v) l.members.components.now l.found.items × (g.M.Made.KEEP ≡ true → EachFits AreOctets l.unknown.items) × (l.walk.fault ≡ None)
+    × ((s : State) → Covers s l.fn.decoder → FoundFit (λ k v. g.M.Made.KEEP ≡ true → FitsFrom s l.types.list.now l.types.levels k v) l.members.components.now l.found.items) × (g.M.Made.KEEP ≡ true → EachFits AreOctets l.unknown.items) × (l.walk.fault ≡ None)
     × (n : ℕ) × Lists (λ b es. InTurn (λ k. MemberListed (shape_of_type l.types.list.now l.types.levels) l.types.levels (Inside l.types.list.now l.types.levels) l.members.extensible l.members.components.now l.members.other_id.0 b) n l.fn.decoder l.decoder es) l.fn.walk.spans l.walk.spans
 
 abbrev pub decreases-decode_set_components-loop-last : goal.decreases-decode_set_components-loop-last

@@ -1,11 +1,9 @@
-use Rattle.std.proofs.Common.{◌≡◌, ◌∙◌, true≢false, refl, sym, inl, inr, chars, subst}
-use Rattle.rasn_types.specs.Shapes.{utf8}
-use Rattle.rasn_enc.proofs.Leaves.CharacterString.{text_refused}
-use Rattle.rasn_schema.specs.declared.types.LeafKind.TheVariants.{Boolean, Null, Bmp, ObjectIdentifier, Date, Utf8, UtcTime, GeneralizedTime}
+use Rattle.std.proofs.Common.{◌≡◌, ◌∙◌, true≢false, refl, sym, inl, inr, subst}
+use Rattle.rasn_schema.specs.declared.types.LeafKind.TheVariants.{Boolean, Null, Bmp, ObjectIdentifier, RelativeOid, Date, UtcTime, GeneralizedTime}
 use Rattle.rasn_schema.specs.declared.value.Value.{Instant}
 use Rattle.rasn_schema.specs.Fitting.{FitsLeaf}
 use Rattle.rasn_dynamic.proofs.OnlyFitting.{form_refused, fitted}
-use Rattle.rasn_dynamic.proofs.LeafWritten.{leaf_as, string_encoded, string_refused, number_encoded, number_refused}
+use Rattle.rasn_dynamic.proofs.LeafWritten.{leaf_as, number_encoded, number_refused}
 use Rattle.rasn_dynamic.proofs.write_leaf.encode_leaf.Goals as goal
 use Rattle.rasn_dynamic.proofs.write_leaf.encode_leaf.Goals.{in-UtcTime, in_default}
 
@@ -57,7 +55,10 @@ returns-in-Units c =
 pub returns-in-Arcs : goal.returns-in-Arcs
 returns-in-Arcs c =
     let call = c.encode_held-in-Arcs in
-    fitted _ c.if-not-leaf_fits.ensures (leaf_as c.args.kind ObjectIdentifier _ _ c.args.tag c.args.constraints.now _ _ _ (subst (FitsLeaf c.args.kind) c.in-Arcs.is c.if-not-leaf_fits.ensures) c.in-Arcs.is call.ensures.ok call.ensures.refused) call.ensures.err call.ensures.rules
+    elim (subst (FitsLeaf c.args.kind) c.in-Arcs.is c.if-not-leaf_fits.ensures) [
+      | inl e ↦ fitted _ c.if-not-leaf_fits.ensures (leaf_as c.args.kind ObjectIdentifier _ _ c.args.tag c.args.constraints.now _ _ _ e c.in-Arcs.is call.ensures.ok call.ensures.refused) call.ensures.err call.ensures.rules
+      | inr e ↦ fitted _ c.if-not-leaf_fits.ensures (leaf_as c.args.kind RelativeOid _ _ c.args.tag c.args.constraints.now _ _ _ e c.in-Arcs.is call.ensures.ok call.ensures.refused) call.ensures.err call.ensures.rules
+    ]
 
 pub returns-in-Day : goal.returns-in-Day
 returns-in-Day c =
@@ -72,18 +73,16 @@ returns-in-Integer c =
       refused = number_refused _ c.args.tag c.args.constraints.now _ _ c.args.kind fits c.encode_integer.ensures.fails;
     })) c.encode_integer.ensures.err c.encode_integer.ensures.rules)
 
+pub encode_octets-requires : goal.encode_octets-requires
+encode_octets-requires c = rw c.as_slice.ensures.value (subst (FitsLeaf c.args.kind) c.in-Octets.is c.if-not-leaf_fits.ensures)
+
 pub returns-in-Octets : goal.returns-in-Octets
 returns-in-Octets c =
-    let fits = subst (FitsLeaf c.args.kind) c.in-Octets.is c.if-not-leaf_fits.ensures in
-    rw c.kept-in-Octets.ensures (fitted _ c.if-not-leaf_fits.ensures (rw (c.in-Octets.is, ← c.as_slice.ensures.value) (record {
-      ok = string_encoded _ c.args.tag c.args.constraints.now _ _ _ c.args.kind (rw c.as_slice.ensures.value fits) c.encode_octet_string.ensures.ok;
-      refused = string_refused _ c.args.tag c.args.constraints.now _ _ c.args.kind (rw c.as_slice.ensures.value fits) c.encode_octet_string.ensures.fails;
-    })) c.encode_octet_string.ensures.err c.encode_octet_string.ensures.rules)
+    rw c.kept-in-Octets.ensures (fitted _ c.if-not-leaf_fits.ensures (rw (c.in-Octets.is, ← c.as_slice.ensures.value) c.encode_octets.ensures.does) c.encode_octets.ensures.err c.encode_octets.ensures.rules)
+
+pub encode_text-requires : goal.encode_text-requires
+encode_text-requires c = subst (FitsLeaf c.args.kind) c.in-Text.is c.if-not-leaf_fits.ensures
 
 pub returns-in-Text : goal.returns-in-Text
 returns-in-Text c =
-    let fits : c.args.kind ≡ Utf8 = subst (FitsLeaf c.args.kind) c.in-Text.is c.if-not-leaf_fits.ensures in
-    rw c.kept-in-Text.ensures (fitted _ c.if-not-leaf_fits.ensures (rw (c.in-Text.is, fits, ← c.as_str.ensures.value) (record {
-      ok = c.encode_utf8_string.ensures.ok;
-      refused = text_refused _ utf8 c.args.tag c.args.constraints.now (chars c.as_str.result.now) _ refl c.encode_utf8_string.ensures.fails;
-    })) c.encode_utf8_string.ensures.err c.encode_utf8_string.ensures.rules)
+    rw c.kept-in-Text.ensures (fitted _ c.if-not-leaf_fits.ensures (rw (c.in-Text.is, ← c.as_str.ensures.value) c.encode_text.ensures.does) c.encode_text.ensures.err c.encode_text.ensures.rules)

@@ -34,8 +34,11 @@ impl Encoder {
         value.encode_with_tag_and_constraints(self, tag, constraints, identifier)
     }
 
-    /// Writes an extension addition group, which is a SEQUENCE of its own, or nothing if there is
-    /// no group (X.680 25.10). The name is ignored.
+    /// Writes an extension addition group as a SEQUENCE of its own, as the crate `rasn` has it, or
+    /// nothing if there is no group. The name is ignored.
+    ///
+    /// By X.680 25 the components of a group `[[ ]]` are components of the SEQUENCE itself, and the
+    /// brackets have no octets. To write these, write each component as an optional one.
     ///
     /// # Errors
     /// The error of the value; none if there is no group. On error, nothing is written.

@@ -5,10 +5,10 @@ use Rattle.json.proofs.Trees.{view-Array, view-Object}
 use Rattle.rasn_schema.specs.declared.types.Alternative.{Alternative}
 use Rattle.rasn_schema.specs.Fitting.{Fits, EachFits, ComponentsFit}
 use Rattle.rasn_schema.proofs.Lists.{split, nothing_left, read_at}
-use Rattle.rasn_dynamic.proofs.FitsRead.{fits_below, are_items, are_elements, each_more, fit_more, fit_end}
+use Rattle.rasn_dynamic.proofs.FitsRead.{are_items, are_elements, each_more, fit_more, fit_end}
 use Rattle.rasn_json.specs.Json.{unknown_in}
 use Rattle.rasn_json.specs.Reading.{AreNames, IsComponentName, ReadAt, ArrayRead, ObjectRead, names_of}
-use Rattle.rasn_json.proofs.ReadParts.{read_below, read_more, read_end, each_read_more, items_read, chosen_read, EachRead}
+use Rattle.rasn_json.proofs.ReadParts.{fits_below, read_below, read_more, read_end, each_read_more, items_read, chosen_read, EachRead}
 use Rattle.std.proofs.lemmas.List.{take_more, take_all}
 use Rattle.std.proofs.lemmas.Option.{slice_get_within}
 use Rattle.rasn_json.proofs.Levels.{if_ok}

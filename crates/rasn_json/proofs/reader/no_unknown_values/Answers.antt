@@ -1,8 +1,8 @@
 use Rattle.std.proofs.Common.{◌≡◌, ◌-◌, [], sym, subst, arith}
 use Rattle.rasn_schema.specs.declared.types.«Type».TheVariants.{Unknown}
 use Rattle.rasn_schema.specs.Fitting.{AreOctets, EachFits}
-use Rattle.rasn_dynamic.proofs.FitsRead.{fits_below, are_items}
-use Rattle.rasn_json.proofs.ReadParts.{unknown_found}
+use Rattle.rasn_dynamic.proofs.FitsRead.{are_items}
+use Rattle.rasn_json.proofs.ReadParts.{fits_below, unknown_found}
 use Rattle.rasn_json.proofs.reader.no_unknown_values.Goals as goal
 
 pub returns-then-is_unknown_at-clause-fits : goal.returns-then-is_unknown_at-clause-fits
