@@ -38,8 +38,7 @@ fn has_offsets(alloc: Global, id: TypeId, octets: &[u8], offsets: &[i16]) -> Opt
 // hours earlier.
 #[test]
 fn offset_is_that_of_the_text(rt: HostRuntime) {
-    const OCTETS: &[u8] =
-        b"\x30\x2A\x18\x1119851106210627.3Z\x18\x1519851106210627.3-0500";
+    const OCTETS: &[u8] = b"\x30\x2A\x18\x1119851106210627.3Z\x18\x1519851106210627.3-0500";
     let kept = has_offsets(rt.alloc(), TypeId(2), OCTETS, &[0, -300]);
     assert!(rt; kept == Some(true));
 }
