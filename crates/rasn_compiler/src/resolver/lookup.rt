@@ -79,7 +79,13 @@ impl<'text> Modules<'text> {
         for _ in 0..MAX_NAMES {
             match self.found_in(at, name) {
                 Some(Found::Assigned(assignment)) => return Ok((at, *assignment)),
-                Some(Found::Imported(import)) => at = self.loaded(module, import.module, position)?,
+                Some(Found::Imported(import)) => match self.referred(at, import.module) {
+                    Some(index) => at = index,
+                    None => {
+                        let problem = Problem::NotLoaded(import.module);
+                        return Err(self.fault(module, position, problem));
+                    }
+                },
                 None if is_given(name) && outside.is_none() && at != self.modules.len() => {
                     at = self.modules.len();
                 }
@@ -101,20 +107,24 @@ impl<'text> Modules<'text> {
         }
     }
 
-    /// Returns the index of a module that has to be among the texts. Built-in modules refer to
-    /// built-in ones alone.
+    /// Returns the index of the module to which a module refers by this name. Built-in modules refer
+    /// to built-in ones alone.
+    fn referred(&self, module: usize, name: &str) -> Option<usize> {
+        if self.is_built_in(module) {
+            self.built_in_index_of(name)
+        } else {
+            self.index_of(name)
+        }
+    }
+
+    /// Returns the index of a module that has to be among the texts.
     fn loaded(
         &self,
         module: usize,
         name: &'text str,
         position: Position,
     ) -> Result<usize, Halt<'text>> {
-        let found = if self.is_built_in(module) {
-            self.built_in_index_of(name)
-        } else {
-            self.index_of(name)
-        };
-        match found {
+        match self.referred(module, name) {
             Some(index) => Ok(index),
             None => Err(self.fault(module, position, Problem::NotLoaded(name))),
         }
