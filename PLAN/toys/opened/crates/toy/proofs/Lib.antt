@@ -1,0 +1,4 @@
+pub mod Loans
+pub mod LooseValues
+pub mod Words
+pub mod There
