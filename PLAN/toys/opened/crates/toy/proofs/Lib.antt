@@ -1,4 +1,0 @@
-pub mod Loans
-pub mod LooseValues
-pub mod Words
-pub mod There
