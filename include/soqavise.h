@@ -23,7 +23,7 @@
 #include <stdint.h>
 #include <string.h>
 
-#define SOQ_VERSION "0.32.0"
+#define SOQ_VERSION "0.33.0"
 
 #ifdef __cplusplus
 extern "C" {

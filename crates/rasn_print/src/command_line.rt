@@ -141,7 +141,7 @@ const STATUSES: &str = "Exit status:\n  \
 pub fn command<'a>(alloc: Global) -> Result<Command<'a>, AllocError> {
     Command::new(alloc, "soqavise")
         .bin_name("soqavise")?
-        .version("0.32.0")
+        .version("0.33.0")
         .about("Shows, checks and converts messages of ASN.1 in BER, CER and DER")
         .after_help(STATUSES)
         .subcommand_required(true)
