@@ -72,20 +72,16 @@ impl<'text> Modules<'text> {
         position: Position,
     ) -> Result<(usize, Assignment<'text>), Halt<'text>> {
         let mut at = match outside {
-            Some(outside) => self.loaded(module, outside, position)?,
+            Some(outside) => self.loaded(module, outside, module, position)?,
             None => module,
         };
         let mut mark = Mark::new(Place::of(at), 0);
         for _ in 0..MAX_NAMES {
             match self.found_in(at, name) {
                 Some(Found::Assigned(assignment)) => return Ok((at, *assignment)),
-                Some(Found::Imported(import)) => match self.referred(at, import.module) {
-                    Some(index) => at = index,
-                    None => {
-                        let problem = Problem::NotLoaded(import.module);
-                        return Err(self.fault(module, position, problem));
-                    }
-                },
+                Some(Found::Imported(import)) => {
+                    at = self.loaded(at, import.module, module, position)?;
+                }
                 None if is_given(name) && outside.is_none() && at != self.modules.len() => {
                     at = self.modules.len();
                 }
@@ -108,23 +104,20 @@ impl<'text> Modules<'text> {
     }
 
     /// Returns the index of the module to which a module refers by this name. Built-in modules refer
-    /// to built-in ones alone.
-    fn referred(&self, module: usize, name: &str) -> Option<usize> {
-        if self.is_built_in(module) {
+    /// to built-in ones alone. A fault is at a position in `module`.
+    fn loaded(
+        &self,
+        from: usize,
+        name: &'text str,
+        module: usize,
+        position: Position,
+    ) -> Result<usize, Halt<'text>> {
+        let found = if self.is_built_in(from) {
             self.built_in_index_of(name)
         } else {
             self.index_of(name)
-        }
-    }
-
-    /// Returns the index of a module that has to be among the texts.
-    fn loaded(
-        &self,
-        module: usize,
-        name: &'text str,
-        position: Position,
-    ) -> Result<usize, Halt<'text>> {
-        match self.referred(module, name) {
+        };
+        match found {
             Some(index) => Ok(index),
             None => Err(self.fault(module, position, Problem::NotLoaded(name))),
         }
